@@ -1,0 +1,9 @@
+pub mod Tests
+pub mod Search
+pub mod Primality
+pub mod Remainders
+pub mod Linearity
+pub mod Bytes
+pub mod Division
+pub mod Total
+pub mod Algebra
