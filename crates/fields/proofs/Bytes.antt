@@ -10,7 +10,7 @@ use Rattle.fields.specs.Binary.{product, bytes}
 use Rattle.fields.specs.Laws.{Sizes, Sums, Products, Inverses}
 use Rattle.fields.proofs.Linearity.{by-bits, agree, linear-zero, then-linear, times-linear-l, times-linear-r}
 use Rattle.fields.proofs.Search.{partner-below, partner-times}
-use Rattle.fields.proofs.Tests.{every, every-at}
+use Rattle.fields.proofs.Computed.{every, every-at}
 
 -- tests on the powers of 2, computed
 

@@ -13,11 +13,11 @@ use lib.ListN.{getD}
 use lib.Pow.{shl-lt}
 use Rattle.fields.specs.Binary.{carryless, remainder, Remains}
 use Rattle.fields.proofs.Linearity.{by-bits, exchange, carryless-linear-r, remainder-linear}
-use Rattle.fields.proofs.Tests.{every, every-at, and-left, and-right}
+use Rattle.fields.proofs.Computed.{every, every-at, and-left, and-right}
 
 -- x is the remainder with a multiple of 285 added
 abbrev Divided : ℕ → Type 0
-Divided x = (k : ℕ) × (k < 256) × (remainder 8 x < 256) × (x ≡ bitXor (carryless 8 285 k) (remainder 8 x))
+Divided x = (k : ℕ) × (k < 256) × (remainder 285 8 x < 256) × (x ≡ bitXor (carryless 8 285 k) (remainder 285 8 x))
 
 -- the quotient by 285 of each power of 2, computed
 quotients : List ℕ
@@ -26,8 +26,8 @@ quotients = 0 ∷ 0 ∷ 0 ∷ 0 ∷ 0 ∷ 0 ∷ 0 ∷ 0 ∷ 1 ∷ 2 ∷ 4 ∷ 8 
 quotient-at : ℕ → Bool
 quotient-at i =
     ltb (getD quotients i 0) 256
-    && (ltb (remainder 8 (2 ^ i)) 256
-    && eqb (2 ^ i) (bitXor (carryless 8 285 (getD quotients i 0)) (remainder 8 (2 ^ i))))
+    && (ltb (remainder 285 8 (2 ^ i)) 256
+    && eqb (2 ^ i) (bitXor (carryless 8 285 (getD quotients i 0)) (remainder 285 8 (2 ^ i))))
 
 quotient-test : T (every quotient-at 16)
 unfolding quotients quotient-at
@@ -37,7 +37,7 @@ divided-power : (i : ℕ) → i < 16 → Divided (2 ^ i)
 unfolding quotient-at
 divided-power i h =
     let k = getD quotients i 0 in
-    let r = remainder 8 (2 ^ i) in
+    let r = remainder 285 8 (2 ^ i) in
     let t = every-at quotient-at 16 quotient-test i h in
     let rest = and-right (ltb k 256) (ltb r 256 && eqb (2 ^ i) (bitXor (carryless 8 285 k) r)) t in (
       k,
@@ -50,13 +50,13 @@ divided-sum : (x y : ℕ) → Divided x → Divided y → Divided (bitXor x y)
 divided-sum x y m n =
     let k = m .0 in
     let l = n .0 in
-    let R = remainder 8 in
+    let R = remainder 285 8 in
     let P = carryless 8 285 in (
       bitXor k l,
       xor-lt 8 k l (m .1) (n .1),
-      subst (λ v. v < 256) (sym (remainder-linear 8 x y)) (xor-lt 8 (R x) (R y) (m .2) (n .2)),
+      subst (λ v. v < 256) (sym (remainder-linear 285 8 x y)) (xor-lt 8 (R x) (R y) (m .2) (n .2)),
       ap (λ v. bitXor v y) (m .3) ∙ ap (bitXor (bitXor (P k) (R x))) (n .3) ∙ exchange (P k) (R x) (P l) (R y)
-          ∙ sym (ap (λ v. bitXor v (R (bitXor x y))) (carryless-linear-r 8 285 k l) ∙ ap (bitXor (bitXor (P k) (P l))) (remainder-linear 8 x y)),
+          ∙ sym (ap (λ v. bitXor v (R (bitXor x y))) (carryless-linear-r 8 285 k l) ∙ ap (bitXor (bitXor (P k) (P l))) (remainder-linear 285 8 x y)),
     )
 
 divided : (x : ℕ) → x < 2 ^ 16 → Divided x
@@ -87,7 +87,7 @@ only-one k l r s hk hl hr hs e =
     let zeroed : bitXor k l ≡ 0 = multiple-zero (bitXor k l) (xor-lt 8 k l hk hl) (subst (λ v. v < 256) (sym same) (xor-lt 8 s r hs hr)) in
     xor-same s r (sym same ∙ ap P zeroed)
 
-pub remains : (x : ℕ) → x < 2 ^ 16 → Remains x (remainder 8 x)
+pub remains : (x : ℕ) → x < 2 ^ 16 → Remains x (remainder 285 8 x)
 remains x h =
     let d = divided x h in
     record {
@@ -95,7 +95,7 @@ remains x h =
       quotient-below = d .1;
       below = d .2;
       divided = d .3;
-      only = λ k s hk hs e. only-one k (d .0) (remainder 8 x) s hk (d .1) (d .2) hs (sym e ∙ d .3);
+      only = λ k s hk hs e. only-one k (d .0) (remainder 285 8 x) s hk (d .1) (d .2) hs (sym e ∙ d .3);
     }
 
 -- the steps of the code
@@ -117,10 +117,10 @@ carryless-step a b i s ha hi e =
     ap (λ k. bitXor k (b / 2 ^ i % 2 * (a * 2 ^ i % 65536))) e ∙ ap (λ k. bitXor (carryless i a b) (b / 2 ^ i % 2 * k)) kept
     ∙ ap (λ k. carryless k a b) (sym (add-one i))
 
-pub remainder-step : (x y i : ℕ) → 0 < i → i ≤ 8 → remainder i y ≡ remainder 8 x
-    → remainder (i - 1) (bitXor y (y / 2 ^ (8 + (i - 1)) % 2 * (285 * 2 ^ (i - 1) % 65536))) ≡ remainder 8 x
-remainder-step x y i pos few e =
+pub remainder-step : (p x y i : ℕ) → p < 512 → 0 < i → i ≤ 8 → remainder p i y ≡ remainder p 8 x
+    → remainder p (i - 1) (bitXor y (y / 2 ^ (8 + (i - 1)) % 2 * (p * 2 ^ (i - 1) % 65536))) ≡ remainder p 8 x
+remainder-step p x y i low pos few e =
     let j = i - 1 in
     let next : i ≡ suc j = omega arith in
-    let kept : 285 * 2 ^ j % 65536 ≡ 285 * 2 ^ j = mod-eq-of-lt (shift-below 9 285 j (omega arith) (omega arith)) in
-    ap (λ k. remainder j (bitXor y (y / 2 ^ (8 + j) % 2 * k))) kept ∙ sym (ap (λ k. remainder k y) next) ∙ e
+    let kept : p * 2 ^ j % 65536 ≡ p * 2 ^ j = mod-eq-of-lt (shift-below 9 p j low (omega arith)) in
+    ap (λ k. remainder p j (bitXor y (y / 2 ^ (8 + j) % 2 * k))) kept ∙ sym (ap (λ k. remainder p k y) next) ∙ e

@@ -1,4 +1,4 @@
-pub mod Tests
+pub mod Computed
 pub mod Search
 pub mod Primality
 pub mod Remainders

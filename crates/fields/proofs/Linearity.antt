@@ -86,14 +86,14 @@ carryless-linear-l (suc n) b =
     both-linear (λ a. carryless n a b) (λ a. bit n b * (a * 2 ^ n)) (carryless-linear-l n b)
     (then-linear (λ a. a * 2 ^ n) (λ k. bit n b * k) (shift-linear n) (times-bit-linear (bit n b) (bit-below n b)))
 
-pub remainder-linear : (n : ℕ) → Linear (remainder n)
-remainder-linear zero = λ x y. refl
-remainder-linear (suc n) =
-    then-linear (λ x. bitXor x (bit (8 + n) x * (285 * 2 ^ n))) (remainder n)
-    (both-linear (λ x. x) (λ x. bit (8 + n) x * (285 * 2 ^ n)) (λ x y. refl) (bit-times-linear (8 + n) (285 * 2 ^ n))) (remainder-linear n)
+pub remainder-linear : (p n : ℕ) → Linear (remainder p n)
+remainder-linear p zero = λ x y. refl
+remainder-linear p (suc n) =
+    then-linear (λ x. bitXor x (bit (8 + n) x * (p * 2 ^ n))) (remainder p n)
+    (both-linear (λ x. x) (λ x. bit (8 + n) x * (p * 2 ^ n)) (λ x y. refl) (bit-times-linear (8 + n) (p * 2 ^ n))) (remainder-linear p n)
 
 pub times-linear-r : (a : ℕ) → Linear (product a)
-times-linear-r a = then-linear (carryless 8 a) (remainder 8) (carryless-linear-r 8 a) (remainder-linear 8)
+times-linear-r a = then-linear (carryless 8 a) (remainder 285 8) (carryless-linear-r 8 a) (remainder-linear 285 8)
 
 pub times-linear-l : (b : ℕ) → Linear (λ a. product a b)
-times-linear-l b = then-linear (λ a. carryless 8 a b) (remainder 8) (carryless-linear-l 8 b) (remainder-linear 8)
+times-linear-l b = then-linear (λ a. carryless 8 a b) (remainder 285 8) (carryless-linear-l 8 b) (remainder-linear 285 8)

@@ -11,7 +11,7 @@ use lib.Dec.{T, T-not, eqb, eqb→eq, eqb-refl, leb, ltb, ltb→lt, leb→le, lt
 use Rattle.fields.specs.Laws.{Sizes}
 use Rattle.fields.specs.Numbers.{among}
 use Rattle.fields.specs.Primes.{IsPrime, moduli, listed, residues}
-use Rattle.fields.proofs.Tests.{every, every-at, and-left, and-right, or-cases}
+use Rattle.fields.proofs.Computed.{every, every-at, and-left, and-right, or-cases}
 
 -- no number from 2 to 255, and below p, divides p
 abbrev misses : ℕ → ℕ → Bool

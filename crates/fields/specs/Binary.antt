@@ -13,10 +13,10 @@ abbrev pub carryless : ℕ → ℕ → ℕ → ℕ
 carryless zero a b = 0
 carryless (suc n) a b = bitXor (carryless n a b) (bit n b * (a * 2 ^ n))
 
--- what long division by the polynomial 285 leaves of x, whose powers are below 8 + n
-abbrev pub remainder : ℕ → ℕ → ℕ
-remainder zero x = x
-remainder (suc n) x = remainder n (bitXor x (bit (8 + n) x * (285 * 2 ^ n)))
+-- what long division by a polynomial p of degree 8 leaves of x, whose powers are below 8 + n
+abbrev pub remainder : ℕ → ℕ → ℕ → ℕ
+remainder p zero x = x
+remainder p (suc n) x = remainder p n (bitXor x (bit (8 + n) x * (p * 2 ^ n)))
 
 -- r is the remainder of x by 285: x = quotient × 285 + r with r below 256, and there is no other such remainder
 pub record Remains (x r : ℕ) : Type 0 where
@@ -26,9 +26,9 @@ pub record Remains (x r : ℕ) : Type 0 where
   pub divided : x ≡ bitXor (carryless 8 285 quotient) r
   pub only : (k s : ℕ) → k < 256 → s < 256 → x ≡ bitXor (carryless 8 285 k) s → s ≡ r
 
--- the product of two numbers below 256: the remainder of their carry-less product
+-- the product of two numbers below 256: the remainder by 285 of their carry-less product
 abbrev pub product : ℕ → ℕ → ℕ
-product a b = remainder 8 (carryless 8 a b)
+product a b = remainder 285 8 (carryless 8 a b)
 
 -- the field of 256 elements; each is its own opposite
 abbrev pub bytes : Arithmetic

@@ -52,16 +52,24 @@ fn multiply_carryless(a: u16, b: u16) -> u16
     sum
 }
 
-// The remainder of a polynomial by 285.
-pub fn reduce(x: u16) -> u16
-    ensures value { λ r. ⌜ r ≡ remainder 8 x ⌝ }
-    ensures remains { λ r. ⌜ Remains x r ⌝ }
+// The remainder of a polynomial by one of degree 8.
+fn reduce_by(polynomial: u16, x: u16) -> u16
+    requires { ⌜ polynomial < 512 ⌝ }
+    ensures { λ r. ⌜ r ≡ remainder polynomial 8 x ⌝ }
 {
     let mut left = x;
     for i in (0..8u32).rev() {
-        left ^= (left >> (8 + i)) % 2 * (POLYNOMIAL << i);
+        left ^= (left >> (8 + i)) % 2 * (polynomial << i);
     }
     left
+}
+
+// The remainder of a polynomial by 285: the only number below 256 to which a multiple of 285 is added.
+pub fn reduce(x: u16) -> u16
+    ensures value { λ r. ⌜ r ≡ remainder 285 8 x ⌝ }
+    ensures remains { λ r. ⌜ Remains x r ⌝ }
+{
+    reduce_by(POLYNOMIAL, x)
 }
 
 // The product of two numbers of the field.
@@ -70,7 +78,7 @@ fn multiply_below(a: u16, b: u16) -> u16
     requires second { ⌜ b < 256 ⌝ }
     ensures { λ r. ⌜ r ≡ product a b ⌝ }
 {
-    reduce(multiply_carryless(a, b))
+    reduce_by(POLYNOMIAL, multiply_carryless(a, b))
 }
 
 // The inverse of a number other than 0, which is its 254th power: the product of its 2nd, 4th, 8th .. 128th.

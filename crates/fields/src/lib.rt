@@ -3,3 +3,5 @@ pub mod fault;
 pub mod field;
 pub mod gf256;
 pub mod prime;
+#[cfg(test)]
+mod tests;
