@@ -1,0 +1,9 @@
+pub mod Lawful
+pub mod Searches
+pub mod Lists
+pub mod Roots
+pub mod Values
+pub mod Distance
+pub mod Grid
+pub mod Kernel
+pub mod Elimination

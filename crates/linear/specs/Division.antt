@@ -1,0 +1,41 @@
+-- Division of polynomials with a remainder.
+use mathlib.Core.List.{List}
+use mathlib.Core.Logic.{_≢_}
+use mathlib.Core.Path.{_≡_}
+use Prim.Native.Nat.{ℕ}
+use lib.Dec.{eqb}
+use lib.ListN.{length, getD, drop}
+use Rattle.std.specs.declared.result.Result.the-variants.{Ok}
+use Rattle.fields.specs.Arithmetic.{Arithmetic}
+use Rattle.fields.specs.Numbers.{Below, Zeros}
+use Rattle.linear.specs.Checks.{Check, unless, unless-found, andThen, stray, nonzero}
+use Rattle.linear.specs.Polynomials.{value, added, product, Same}
+use Rattle.linear.specs.declared.fault.DivideFault.{DivideFault}
+use Rattle.linear.specs.declared.fault.DivideFault.the-variants.{Length, Dividend, Divisor, Zero}
+
+-- the degree of r is below that of s: from some place with a number other than 0 in s on, r has zeros
+abbrev pub Shorter : List ℕ → List ℕ → Type 0
+Shorter r s = (l : ℕ) × (getD s l 0 ≢ 0) × Zeros (drop l r)
+
+-- p = quotient × s + remainder, with a remainder of a degree below that of s
+pub record Divided (F : Arithmetic) (p s quotient remainder : List ℕ) : Type 0 where
+  pub whole : Same p (added F (product F quotient s) remainder)
+  pub values : (x : ℕ) → value F p x ≡ F .plus (F .times (value F quotient x) (value F s x)) (value F remainder x)
+  pub shorter : Shorter remainder s
+  pub quotient-long : length quotient ≡ length p
+  pub remainder-long : length remainder ≡ length p
+  pub quotient-below : Below (F .order) quotient
+  pub remainder-below : Below (F .order) remainder
+  -- there are no other two such lists
+  pub alone : (a b : List ℕ) → length a ≡ length p → length b ≡ length p → Below (F .order) a → Below (F .order) b → Same p (added F (product F a s) b) → Shorter b s → (a ≡ quotient) × (b ≡ remainder)
+
+-- room for a quotient as long as p, and numbers below q in p and in s
+abbrev pub numbers-check : ℕ → List ℕ → List ℕ → ℕ → Check DivideFault
+numbers-check q p s room =
+    unless (eqb room (length p)) Length
+    (unless-found (stray q 0 p) Dividend
+    (unless-found (stray q 0 s) Divisor (Ok tt)))
+
+-- and a divisor other than 0
+abbrev pub divide-check : ℕ → List ℕ → List ℕ → ℕ → Check DivideFault
+divide-check q p s room = andThen (numbers-check q p s room) (unless (nonzero s) Zero (Ok tt))

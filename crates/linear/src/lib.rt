@@ -1,0 +1,6 @@
+// Polynomials and linear equations over any field, on lent numbers.
+pub mod fault;
+mod numbers;
+pub mod polynomial;
+mod rows;
+pub mod solve;
