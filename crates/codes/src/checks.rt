@@ -1,0 +1,44 @@
+// The checks and counts that every code shares.
+ghost use mathlib.Core.Path.{_≡_};
+ghost use Prim.Native.Nat.{ℕ};
+ghost use Rattle.codes.specs.Checks.{number-check, unmarked-check};
+ghost use Rattle.codes.specs.Words.{missing};
+use crate::fault::CodeFault;
+
+// Refuses the first number that is not below the order.
+pub fn check_numbers(order: u32, numbers: &[u16]) -> Result<(), CodeFault>
+    ensures { λ r. ⌜ r ≡ number-check order 0 (now (numbers .entry)) ⌝ }
+{
+    for (i, x) in numbers.iter().enumerate() {
+        if u32::from(*x) >= order {
+            return Err(CodeFault::Number(i));
+        }
+    }
+    Ok(())
+}
+
+// Refuses the first number that is not below the order at a place that is marked by 0.
+pub fn check_unmarked(order: u32, numbers: &[u16], marks: &[u8]) -> Result<(), CodeFault>
+    ensures { λ r. ⌜ r ≡ unmarked-check order 0 (now (numbers .entry)) (now (marks .entry)) ⌝ }
+{
+    let places = numbers.len().min(marks.len());
+    for i in 0..places {
+        if marks[i] == 0 && u32::from(numbers[i]) >= order {
+            return Err(CodeFault::Number(i));
+        }
+    }
+    Ok(())
+}
+
+// How many places are missing: a mark of any value but 0 says so.
+pub fn count_missing(marks: &[u8]) -> usize
+    ensures { λ r. ⌜ r ≡ missing (now (marks .entry)) ⌝ }
+{
+    let mut count: usize = 0;
+    for mark in marks {
+        if *mark != 0 {
+            count += 1;
+        }
+    }
+    count
+}
