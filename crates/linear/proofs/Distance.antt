@@ -60,8 +60,8 @@ module _ (F : Arithmetic) (L : TotalLaws F) where
       let kept = kept-by (agree p s) points in
       Values.same-from-minus F L p s e hp hs
       (Roots.roots-bound F L kept (Values.minus F L p s) (kept-distinct (agree p s) points ds) (kept-all (λ x. x < F .order) (agree p s) points hx)
-        (Values.added-below F L p _ hp (Values.scaled-below F L (F .opposite 1) s)) (roots-of p s kept (kept-passes (agree p s) points))
-        (omega (arith, Values.length-added F L p (scaled F (F .opposite 1) s), length-map s (F .times (F .opposite 1)))))
+      (Values.added-below F L p _ hp (Values.scaled-below F L (F .opposite 1) s)) (roots-of p s kept (kept-passes (agree p s) points))
+      (omega (arith, Values.length-added F L p (scaled F (F .opposite 1) s), length-map s (F .times (F .opposite 1)))))
 
   -- the words of two messages of k numbers at n points differ in at least n - k + 1 places
   pub words-apart : (p s points : List ℕ) (k : ℕ) → length p ≡ k → length s ≡ k → Below (F .order) p → Below (F .order) s → Distinct points → Below (F .order) points → p ≢ s → length points + 1 ≤ differ (word F points p) (word F points s) + k

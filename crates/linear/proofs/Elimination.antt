@@ -23,9 +23,9 @@ zeros-replicate (suc n) = (refl, zeros-replicate n)
 
 module _ (F : Arithmetic) (L : TotalLaws F) where
   open Arithmetic F using (order as q, plus as _⊕_, times as _⊗_, opposite as neg, inverse as inv)
+
   infixl 65 _⊕_
   infixl 70 _⊗_
-
   -- a solution of the columns after c, where column c has a 0
   pub under-zero : (c y : ℕ) (r u : List ℕ) → c < length r → getD r c 0 ≡ 0 → dot F (drop (c + 1) r) u ≡ 0 → dot F (drop c r) (y ∷ u) ≡ 0
   under-zero c y r u h z e =
@@ -55,7 +55,6 @@ module _ (F : Arithmetic) (L : TotalLaws F) where
   module _ (w c n : ℕ) (top rest rest′ : List ℕ) (cw : c < w) (wide : length top ≡ w) (long : n * w ≡ length rest) (long′ : n * w ≡ length rest′)
       (below : getD top c 0 < q) (lead : getD top c 0 ≢ 0) (grid : Grid F w n rest)
       (clear : (k : ℕ) → k < n → row w k rest′ ≡ reduced F (row w k rest) (getD (row w k rest) c 0) (scaled F (inv (getD top c 0)) top)) where
-
     abbrev first : List ℕ
     first = scaled F (inv (getD top c 0)) top
 
@@ -87,7 +86,7 @@ module _ (F : Arithmetic) (L : TotalLaws F) where
         let one : dot F (drop c first) u ≡ 0 = under-one c first v (omega (arith, first-long)) first-one in
         ap (λ r. dot F (drop c r) u) (row-first w top rest wide)
         ∙ Kernel.solves-scaled F L (drop c top) u (inv (getD top c 0)) (L .inverse-below (getD top c 0)) (inverse-nonzero (getD top c 0) below lead)
-          (ap (λ r. dot F r u) (sym (drop-map (F .times (inv (getD top c 0))) c top)) ∙ one)
+        (ap (λ r. dot F r u) (sym (drop-map (F .times (inv (getD top c 0))) c top)) ∙ one)
     step-solves v h (suc k) l =
         let u = neg (dot F (drop (c + 1) first) v) ∷ v in
         let kn : k < n = omega arith in
@@ -98,4 +97,4 @@ module _ (F : Arithmetic) (L : TotalLaws F) where
         let done : dot F (drop c (row w k rest′)) u ≡ 0 = under-zero c (neg (dot F (drop (c + 1) first) v)) (row w k rest′) v (omega arith) (rest-zero k kn) (h k kn) in
         ap (λ t. dot F (drop c t) u) (row-rest w k top rest wide)
         ∙ Kernel.solves-reduced F L (drop c r) (drop c first) u b (omega (arith, length-drop c first, length-drop c r, same-long k kn))
-          (ap (λ t. dot F t u) (sym (ap (drop c) (clear k kn) ∙ Kernel.drop-reduced F c r b first)) ∙ done) one
+        (ap (λ t. dot F t u) (sym (ap (drop c) (clear k kn) ∙ Kernel.drop-reduced F c r b first)) ∙ done) one

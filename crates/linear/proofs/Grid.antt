@@ -1,18 +1,19 @@
 -- Rows of w numbers one after another.
-use mathlib.Core.Path.{_≡_, refl, sym, ap, ap₂, _∙_}
+use mathlib.Core.Path.{_≡_, refl, sym, ap, ap₂, _∙_, subst}
 use mathlib.Core.List.{List, [], _∷_, _++_, map}
 use mathlib.Core.Logic.{_≢_, _⊎_, inl, inr}
-use Prim.Native.Nat.{ℕ, _<_, _≤_, _+_, _*_, zero, suc}
+use Prim.Native.Nat.{ℕ, _<_, _≤_, _+_, _-_, _*_, zero, suc}
 use native.Mathlib.Nat.{suc-mul, zero-mul, mul-le-mul-right}
 use native.Mathlib.Decide.{decLt}
 use native.Mathlib.Omega.{arith}
 use lib.ListN.{length, getD, take, drop}
 use borrow.Author.Count.{below-more}
 use borrow.Rule.Slice.PartMut.{putMid}
-use Rattle.std.proofs.shelf.Lists.{at-drop-more, drop-more, drop-take, getD-take, getD-drop, drop-drop}
+use Rattle.std.proofs.shelf.Elements.{all-take, all-drop}
+use Rattle.std.proofs.shelf.Lists.{drop-more, drop-take, getD-take, getD-drop, drop-drop, drop-at, take-at, take-take, take-append-le, drop-append-le, length-take-le, length-drop}
 use Rattle.std.proofs.shelf.Parts.{take-putMid-below, drop-putMid}
-use Rattle.std.proofs.shelf.Lists.{drop-at, take-at, length-take-le, length-drop, drop-all, append-nil}
 use Rattle.fields.specs.Arithmetic.{Arithmetic}
+use Rattle.fields.specs.Numbers.{Below}
 use Rattle.linear.specs.Equations.{row, dot}
 
 -- row k ends before row n begins
@@ -44,9 +45,10 @@ row-same w k d s ys h e =
 -- a loop that writes G k over each row k
 pub rows-more : (G : ℕ → List ℕ) (w k d : ℕ) (s old ys : List ℕ) → d ≡ w → k * w ≤ length s → length ys ≡ w → ys ≡ G k → ((j : ℕ) → j < k → row w j s ≡ G j) → ((j : ℕ) → k ≤ j → row w j s ≡ row w j old)
     → ((j : ℕ) → j < k + 1 → row w j (putMid (k * w) d s ys) ≡ G j) × ((j : ℕ) → k + 1 ≤ j → row w j (putMid (k * w) d s ys) ≡ row w j old)
-rows-more G w k d s old ys width h e is done left =
-    (below-more (λ j. row w j (putMid (k * w) d s ys) ≡ G j) k (λ j lt. row-other w k d j s ys width h e (omega arith) ∙ done j lt) (row-same w k d s ys h e ∙ is),
-      λ j le. row-other w k d j s ys width h e (omega arith) ∙ left j (omega arith))
+rows-more G w k d s old ys width h e is done left = (
+  below-more (λ j. row w j (putMid (k * w) d s ys) ≡ G j) k (λ j lt. row-other w k d j s ys width h e (omega arith) ∙ done j lt) (row-same w k d s ys h e ∙ is),
+  λ j le. row-other w k d j s ys width h e (omega arith) ∙ left j (omega arith),
+)
 
 -- the sum of products, a step down from j to i
 pub dot-more : (F : Arithmetic) (a b : List ℕ) (i j s : ℕ) → i < length a → i < length b → j ≡ i + 1 → s ≡ dot F (drop j a) (drop j b) → F .plus (F .times (getD a i 0) (getD b i 0)) s ≡ dot F (drop i a) (drop i b)
@@ -69,7 +71,17 @@ row-first w ys t e = row-zero w (ys ++ t) ∙ take-at ys t w e
 pub row-rest : (w k : ℕ) (ys t : List ℕ) → length ys ≡ w → row w (suc k) (ys ++ t) ≡ row w k t
 row-rest w k ys t e = row-suc w k (ys ++ t) ∙ ap (row w k) (drop-at ys t w e)
 
--- a list written in two parts
-pub two-parts : (a k : ℕ) (ps zs rs : List ℕ) → length ps ≡ a → length zs ≤ k → putMid a k (ps ++ zs) rs ≡ ps ++ rs
-two-parts a k ps zs rs e h =
-    ap₂ _++_ (take-at ps zs a e) (ap (λ t. rs ++ t) (ap (drop k) (drop-at ps zs a e) ∙ drop-all k zs h) ∙ append-nil rs)
+-- the rows of a list's front
+pub row-front : (w i n : ℕ) (s t : List ℕ) → n * w ≡ length s → i < n → row w i (s ++ t) ≡ row w i s
+row-front w i n s t e l =
+    let ends : i * w + w ≤ n * w = row-ends i n w l in
+    ap (take w) (drop-append-le (i * w) s t (omega arith)) ∙ take-append-le w (drop (i * w) s) t (omega (arith, length-drop (i * w) s))
+
+pub row-taken : (w i m : ℕ) (s : List ℕ) → i * w + w ≤ m → row w i (take m s) ≡ row w i s
+row-taken w i m s h =
+    let split : i * w + (m - i * w) ≡ m = omega arith in
+    ap (λ n. take w (drop (i * w) (take n s))) (sym split) ∙ ap (take w) (drop-take (i * w) (m - i * w) s) ∙ take-take w (m - i * w) (drop (i * w) s) (omega arith)
+
+-- rows of numbers below q, from a list of them
+pub below-row : (q w i m : ℕ) (s : List ℕ) → i * w + w ≤ m → Below q (take m s) → Below q (row w i s)
+below-row q w i m s h b = subst (Below q) (row-taken w i m s h) (all-take (λ x. x < q) w (drop (i * w) (take m s)) (all-drop (λ x. x < q) (i * w) (take m s) b))

@@ -32,9 +32,9 @@ drop-reduced F c t b p = drop-added F c t (scaled F (F .opposite b) p) ∙ ap (a
 
 module _ (F : Arithmetic) (L : TotalLaws F) where
   open Arithmetic F using (order as q, plus as _⊕_, times as _⊗_, opposite as neg, inverse as inv)
+
   infixl 65 _⊕_
   infixl 70 _⊗_
-
   pub dot-below : (a u : List ℕ) → dot F a u < q
   dot-below [] u = Algebra.zero-below F L
   dot-below (x ∷ a) [] = Algebra.zero-below F L
@@ -112,7 +112,7 @@ module _ (F : Arithmetic) (L : TotalLaws F) where
     raised-keeps u h zero l =
         let p : dot F (drop c (row w (suc k) s)) u ≡ 0 = ap (λ r. dot F (drop c r) u) (sym (raised-other k)) ∙ h (suc k) within in
         let r : dot F (reduced F (drop c (row w 0 s)) 1 (drop c (row w (suc k) s))) u ≡ 0 =
-            ap (λ t. dot F t u) (sym (ap (drop c) raised-first ∙ drop-reduced F c (row w 0 s) 1 (row w (suc k) s))) ∙ h 0 l in
+        ap (λ t. dot F t u) (sym (ap (drop c) raised-first ∙ drop-reduced F c (row w 0 s) 1 (row w (suc k) s))) ∙ h 0 l in
         solves-reduced (drop c (row w 0 s)) (drop c (row w (suc k) s)) u 1 (omega (arith, length-drop c (row w (suc k) s), length-drop c (row w 0 s), same-long)) r p
     raised-keeps u h (suc i) l = ap (λ r. dot F (drop c r) u) (sym (raised-other i)) ∙ h (suc i) l
 
@@ -125,6 +125,6 @@ module _ (F : Arithmetic) (L : TotalLaws F) where
         let x = getD (row w (suc k) s) c 0 in
         let xq : x < q = all-getD (λ v. v < q) (row w (suc k) s) c 0 (omega (arith, length-row w (suc k) s other-ends)) (h (suc k) within) in
         let at : getD ys c 0 ≡ 0 ⊕ neg 1 ⊗ x =
-            ap (λ r. getD r c 0) is ∙ getD-added F (neg 1) (row w 0 s) (row w (suc k) s) c same-long (omega (arith, length-row w 0 s first-ends)) ∙ ap (λ v. v ⊕ neg 1 ⊗ x) z in
+        ap (λ r. getD r c 0) is ∙ getD-added F (neg 1) (row w 0 s) (row w (suc k) s) c same-long (omega (arith, length-row w 0 s first-ends)) ∙ ap (λ v. v ⊕ neg 1 ⊗ x) z in
         nz (Algebra.no-divisor F L (neg 1) x (L .opposite-below 1) neg-one xq
-          (sym (Algebra.zero-plus F L (neg 1 ⊗ x) (L .times-below (neg 1) x)) ∙ sym at ∙ sym (getD-append-left ys (drop w s) 0 c (omega (arith, ys-long))) ∙ e))
+        (sym (Algebra.zero-plus F L (neg 1 ⊗ x) (L .times-below (neg 1) x)) ∙ sym at ∙ sym (getD-append-left ys (drop w s) 0 c (omega (arith, ys-long))) ∙ e))

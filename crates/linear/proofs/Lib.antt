@@ -1,5 +1,6 @@
 pub mod Lawful
 pub mod Searches
+pub mod Passed
 pub mod Lists
 pub mod Roots
 pub mod Values

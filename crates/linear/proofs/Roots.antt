@@ -14,9 +14,9 @@ use Rattle.linear.specs.Polynomials.{value}
 
 module _ (F : Arithmetic) (L : TotalLaws F) where
   open Arithmetic F using (order as q, plus as _⊕_, times as _⊗_, opposite as neg, inverse as inv)
+
   infixl 65 _⊕_
   infixl 70 _⊗_
-
   pub value-below : (p : List ℕ) (x : ℕ) → value F p x < q
   value-below [] x = Algebra.zero-below F L
   value-below (a ∷ p) x = L .plus-below a (x ⊗ value F p x)
@@ -80,9 +80,10 @@ module _ (F : Arithmetic) (L : TotalLaws F) where
   others a r p (x ∷ rs) hr e n h z =
       let d = x ⊕ neg r in
       let t = value F (tails r p) x in
-      let dt : d ⊗ t ≡ 0 = sym (Algebra.zero-plus F L (d ⊗ t) (L .times-below d t)) ∙ ap (λ w. w ⊕ d ⊗ t) (sym e) ∙ sym (factor a r x p) ∙ z .0 in
-      (Algebra.no-divisor F L d t (L .plus-below x (neg r)) (λ w. n .0 (Algebra.same-from F L x r (h .0) hr w)) (value-below (tails r p) x) dt,
-        others a r p rs hr e (n .1) (h .1) (z .1))
+      let dt : d ⊗ t ≡ 0 = sym (Algebra.zero-plus F L (d ⊗ t) (L .times-below d t)) ∙ ap (λ w. w ⊕ d ⊗ t) (sym e) ∙ sym (factor a r x p) ∙ z .0 in (
+        Algebra.no-divisor F L d t (L .plus-below x (neg r)) (λ w. n .0 (Algebra.same-from F L x r (h .0) hr w)) (value-below (tails r p) x) dt,
+        others a r p rs hr e (n .1) (h .1) (z .1),
+      )
 
   pub roots-bound : (points p : List ℕ) → Distinct points → Below q points → Below q p → All (λ x. value F p x ≡ 0) points → length p ≤ length points → Zeros p
   roots-bound [] [] ds hs hp z le = tt

@@ -13,9 +13,9 @@ use Rattle.linear.proofs.Roots
 
 module _ (F : Arithmetic) (L : TotalLaws F) where
   open Arithmetic F using (order as q, plus as _⊕_, times as _⊗_, opposite as neg, inverse as inv)
+
   infixl 65 _⊕_
   infixl 70 _⊗_
-
   pub value-added : (p s : List ℕ) (x : ℕ) → value F (added F p s) x ≡ value F p x ⊕ value F s x
   value-added [] s x = sym (Algebra.zero-plus F L (value F s x) (Roots.value-below F L s x))
   value-added (a ∷ p) [] x = sym (L .plus-zero (value F (a ∷ p) x) (Roots.value-below F L (a ∷ p) x))

@@ -18,7 +18,12 @@ use fields::field::Field;
 
 // Writes into `solution` numbers, not all of them 0, that solve `count` homogeneous equations in as many unknowns as it is long.
 // The coefficients stand in the scratch row after row, and one spare row follows them; what these rows hold afterwards is free.
-pub fn solve<F: Field>(f: &F, scratch: &mut [u16], count: usize, solution: &mut [u16]) -> Result<(), SolveFault>
+pub fn solve<F: Field>(
+    f: &F,
+    scratch: &mut [u16],
+    count: usize,
+    solution: &mut [u16],
+) -> Result<(), SolveFault>
     ensures answer { λ r. ⌜ r ≡ solve-check (operations F·Field (now (f .entry)) .order) (now (scratch .entry)) count (length (now (solution .entry))) ⌝ }
     ensures solved { λ r. ⌜ Cases r (λ _. Solution (operations F·Field (now (f .entry))) (length (now (solution .entry))) count (now (scratch .entry)) (now (solution .exit))) (λ _. (now (scratch .exit) ≡ now (scratch .entry)) × (now (solution .exit) ≡ now (solution .entry))) ⌝ }
     ensures rest { λ _. ⌜ drop ((count + 1) * length (now (solution .entry))) (now (scratch .exit)) ≡ drop ((count + 1) * length (now (solution .entry))) (now (scratch .entry)) ⌝ }
@@ -63,7 +68,15 @@ fn solve_rows<F: Field>(f: &F, room: &mut [u16], count: usize, solution: &mut [u
 // Solves the rows from column `c` on, where the columns before it are not looked at: the numbers of `v` from `c` on are a solution, not all of them 0.
 // A column of zeros is solved by a 1 there and zeros after it. Otherwise the first row, scaled to a 1 in the column, clears the
 // column in the rows below it, which are solved from the next column on, and the first row then gives the number at `c`.
-fn eliminate<F: Field>(f: &F, rows: &mut [u16], spare: &mut [u16], w: usize, count: usize, c: usize, v: &mut [u16])
+fn eliminate<F: Field>(
+    f: &F,
+    rows: &mut [u16],
+    spare: &mut [u16],
+    w: usize,
+    count: usize,
+    c: usize,
+    v: &mut [u16],
+)
     requires size { ⌜ count * w ≡ length (now rows) ⌝ }
     requires column { ⌜ count + c < w ⌝ }
     requires room { ⌜ length (now spare) ≡ w ⌝ }
@@ -89,7 +102,14 @@ fn eliminate<F: Field>(f: &F, rows: &mut [u16], spare: &mut [u16], w: usize, cou
 }
 
 // Gives the first row a number other than 0 in column `c`, if any row has one, and keeps the solutions.
-fn place_pivot<F: Field>(f: &F, rows: &mut [u16], spare: &mut [u16], w: usize, count: usize, c: usize) -> bool
+fn place_pivot<F: Field>(
+    f: &F,
+    rows: &mut [u16],
+    spare: &mut [u16],
+    w: usize,
+    count: usize,
+    c: usize,
+) -> bool
     requires size { ⌜ count * w ≡ length (now rows) ⌝ }
     requires column { ⌜ c < w ⌝ }
     requires room { ⌜ length (now spare) ≡ w ⌝ }

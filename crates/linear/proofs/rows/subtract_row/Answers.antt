@@ -20,9 +20,10 @@ loop-i-again g c =
     let i = c .loop-i .i in
     let xs = c .loop-i .target in
     let at : ℕ → ℕ = λ k. F .plus (getD (c .args .target .now) k 0) (F .times (F .opposite (c .args .by)) (getD (c .args .pivot .now) k 0)) in
-    let e : c .add .result ≡ at i = c .add .ensures ∙ ap₂ (F .plus) (c .loop-i .inv .1 i (omega arith)) (c .multiply .ensures ∙ ap (λ w. F .times w (getD (c .args .pivot .now) i 0)) (c .negate-opposite .ensures)) in
-    (subst (λ (r : ℕ). (k : ℕ) → k < i + 1 → getD (set xs i r) k 0 ≡ at k) (sym e) (fill-by-more at xs i 0 (omega arith) (c .loop-i .inv .0)),
-      λ k h. getD-set-other xs i k (c .add .result) 0 (omega arith) ∙ c .loop-i .inv .1 k (omega arith))
+    let e : c .add .result ≡ at i = c .add .ensures ∙ ap₂ (F .plus) (c .loop-i .inv .1 i (omega arith)) (c .multiply .ensures ∙ ap (λ w. F .times w (getD (c .args .pivot .now) i 0)) (c .negate-opposite .ensures)) in (
+      subst (λ (r : ℕ). (k : ℕ) → k < i + 1 → getD (set xs i r) k 0 ≡ at k) (sym e) (fill-by-more at xs i 0 (omega arith) (c .loop-i .inv .0)),
+      λ k h. getD-set-other xs i k (c .add .result) 0 (omega arith) ∙ c .loop-i .inv .1 k (omega arith),
+    )
 
 pub returns : need.returns
 returns g c =

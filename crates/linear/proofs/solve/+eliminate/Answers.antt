@@ -37,11 +37,11 @@ returns-then-not-place-pivot g t c =
     let zz : Zeros (drop (k + 1) z) = subst Zeros (sym (ap (drop (k + 1)) blank ∙ drop-replicate (k + 1) (length (c .args .v .now)) 0)) (zeros-replicate (length (c .args .v .now) - (k + 1))) in
     record {
       solves = λ i l.
-        let e : length (row w i s) ≡ w = length-row w i s (omega (arith, row-ends i n w l)) in
-        ap (dot F (drop k (row w i s))) u ∙ under-zero F L k 1 (row w i s) (drop (k + 1) z) (omega arith) (c .place-pivot .ensures .none (c .if-not-place-pivot .taken) i l) (dot-zeros F L (drop (k + 1) (row w i s)) (drop (k + 1) z) zz);
+          let e : length (row w i s) ≡ w = length-row w i s (omega (arith, row-ends i n w l)) in
+          ap (dot F (drop k (row w i s))) u ∙ under-zero F L k 1 (row w i s) (drop (k + 1) z) (omega arith) (c .place-pivot .ensures .none (c .if-not-place-pivot .taken) i l) (dot-zeros F L (drop (k + 1) (row w i s)) (drop (k + 1) z) zz);
       nonzero = λ h.
-        let o : _≡_ {A = ℕ} 1 0 = subst Zeros u h .0 in
-        omega arith;
+          let o : _≡_ {A = ℕ} 1 0 = subst Zeros u h .0 in
+          omega arith;
       below = subst (Below (F .order)) (sym u) (one-below F L, all-weaker (λ x. x ≡ 0) (λ x. x < F .order) (λ x e. subst (λ (y : ℕ). y < F .order) (sym e) (zero-below F L)) (drop (k + 1) z) zz);
     }
 
@@ -101,7 +101,7 @@ eliminate-requires g t c κs within =
     let grid-rest : Grid F w n rest = λ i l. subst (Below (F .order)) (ap (row w (suc i)) value ∙ row-rest w i top rest wide) (grid (suc i) (omega arith)) in
     let cleared : (i : ℕ) → i < n → row w i rest′ ≡ reduced F (row w i rest) (getD (row w i rest) k 0) (c .scale-row .last .row) = c .clear-column .ensures in
     let cleared′ : (i : ℕ) → i < n → row w i rest′ ≡ reduced F (row w i rest) (getD (row w i rest) k 0) (scaled F (F .inverse (getD top k 0)) top) =
-        λ i l. cleared i l ∙ ap (reduced F (row w i rest) (getD (row w i rest) k 0)) first in
+    λ i l. cleared i l ∙ ap (reduced F (row w i rest) (getD (row w i rest) k 0)) first in
     let spare : length (c .place-pivot .last .spare) ≡ w = c .place-pivot .kept .spare ∙ c .pre .room in
     (omega arith, (within, (long′, (omega (arith, c .pre .column), (spare, (c .pre .unknowns, rest-grid F L w k n top rest rest′ cw wide long long′ (inverse .1) (inverse .2) grid-rest cleared′))))))
 
@@ -136,7 +136,7 @@ returns g t c =
     let grid-rest : Grid F w n rest = λ i l. subst (Below (F .order)) (ap (row w (suc i)) value ∙ row-rest w i top rest wide) (grid (suc i) (omega arith)) in
     let cleared : (i : ℕ) → i < n → row w i rest′ ≡ reduced F (row w i rest) (getD (row w i rest) k 0) (c .scale-row .last .row) = c .clear-column .ensures in
     let cleared′ : (i : ℕ) → i < n → row w i rest′ ≡ reduced F (row w i rest) (getD (row w i rest) k 0) (scaled F (F .inverse (getD top k 0)) top) =
-        λ i l. cleared i l ∙ ap (reduced F (row w i rest) (getD (row w i rest) k 0)) first in
+    λ i l. cleared i l ∙ ap (reduced F (row w i rest) (getD (row w i rest) k 0)) first in
     let v = c .eliminate .last .v in
     let vlong : length v ≡ w = c .eliminate .kept .v ∙ c .pre .unknowns in
     let one = c .scale-row .last .row in
@@ -145,12 +145,12 @@ returns g t c =
     let part′ : take (w - (k + 1)) (drop (k + 1) v) ≡ drop (k + 1) v = take-all (w - (k + 1)) (drop (k + 1) v) (omega (arith, length-drop (k + 1) v)) in
     let sum : c .multiply-rows .result ≡ dot F (take (w - (k + 1)) (drop (k + 1) one)) (take (w - (k + 1)) (drop (k + 1) v)) = c .multiply-rows .ensures in
     let y : c .negate .result ≡ F .opposite (dot F (drop (k + 1) (scaled F (F .inverse (getD top k 0)) top)) (drop (k + 1) v)) =
-        c .negate .ensures ∙ ap (F .opposite) (sum ∙ ap₂ (dot F) (part ∙ ap (drop (k + 1)) first) part′) in
+    c .negate .ensures ∙ ap (F .opposite) (sum ∙ ap₂ (dot F) (part ∙ ap (drop (k + 1)) first) part′) in
     let u : drop k (set v k (c .negate .result)) ≡ F .opposite (dot F (drop (k + 1) (scaled F (F .inverse (getD top k 0)) top)) (drop (k + 1) v)) ∷ drop (k + 1) v =
-        drop-set v k (c .negate .result) (omega arith) ∙ ap (λ x. x ∷ drop (k + 1) v) y in
+    drop-set v k (c .negate .result) (omega arith) ∙ ap (λ x. x ∷ drop (k + 1) v) y in
     let solved : Solves F w (k + 1) n rest′ (drop (k + 1) v) = c .eliminate .ensures .solves in
     let all : Solves F w k (suc n) (top ++ rest) (drop k (set v k (c .negate .result))) =
-        subst (Solves F w k (suc n) (top ++ rest)) (sym u) (step-solves F L w k n top rest rest′ cw wide long long′ (inverse .1) (inverse .2) grid-rest cleared′ (drop (k + 1) v) solved) in
+    subst (Solves F w k (suc n) (top ++ rest)) (sym u) (step-solves F L w k n top rest rest′ cw wide long long′ (inverse .1) (inverse .2) grid-rest cleared′ (drop (k + 1) v) solved) in
     let whole : Solves F w k (c .args .count) s (drop k (set v k (c .negate .result))) = λ i l. ap (λ r. dot F (drop k (row w i r)) (drop k (set v k (c .negate .result)))) value ∙ all i (omega arith) in
     record {
       solves = c .place-pivot .ensures .keeps came (drop k (set v k (c .negate .result))) whole;

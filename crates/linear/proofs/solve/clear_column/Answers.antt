@@ -33,8 +33,8 @@ loop-k-again g c =
     let here : row w k s ≡ row w k old = c .loop-k .inv .1 k (omega arith) in
     let by : getD s (k * w + c .args .c) 0 ≡ getD (row w k old) (c .args .c) 0 = sym (getD-row w k (c .args .c) s (omega arith)) ∙ ap (λ r. getD r (c .args .c) 0) here in
     let is : c .subtract-row .last .target ≡ G k =
-        c .subtract-row .ensures
-        ∙ ap (λ t. reduced F t (getD s (k * w + c .args .c) 0) (c .args .pivot .now)) (ap (λ n. take n (drop (k * w) s)) width ∙ here)
-        ∙ ap (λ b. reduced F (row w k old) b (c .args .pivot .now)) by in
+    c .subtract-row .ensures
+    ∙ ap (λ t. reduced F t (getD s (k * w + c .args .c) 0) (c .args .pivot .now)) (ap (λ n. take n (drop (k * w) s)) width ∙ here)
+    ∙ ap (λ b. reduced F (row w k old) b (c .args .pivot .now)) by in
     rows-more G w k (k * w + w - k * w) s old (c .subtract-row .last .target) width (omega arith)
-        (c .subtract-row .kept .target ∙ ap (λ n. length (take n (drop (k * w) s))) width ∙ length-row w k s (omega arith)) is (c .loop-k .inv .0) (c .loop-k .inv .1)
+    (c .subtract-row .kept .target ∙ ap (λ n. length (take n (drop (k * w) s))) width ∙ length-row w k s (omega arith)) is (c .loop-k .inv .0) (c .loop-k .inv .1)

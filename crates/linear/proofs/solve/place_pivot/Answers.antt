@@ -57,8 +57,8 @@ returns-then-p-gt0 g c =
       none = λ e. absurd (clash (sym e));
       some = λ _. omega arith;
       lead = λ _. subst (λ (r : List ℕ). getD (ys ++ r) (c .args .c) 0 ≢ 0) (sym t) (raised-lead F L w (c .args .c) n k s ys (c .pre .size) within is (c .pre .column) (c .pre .grid)
-        (getD-row w 0 (c .args .c) s (c .pre .column) ∙ c .find-pivot-p .ensures .before 0 (c .if-p-gt0 .taken))
-        (λ z. c .find-pivot-p .ensures .found (omega arith) (sym (getD-row w p (c .args .c) s (c .pre .column)) ∙ ap (λ m. getD (row w m s) (c .args .c) 0) pk ∙ z)));
+          (getD-row w 0 (c .args .c) s (c .pre .column) ∙ c .find-pivot-p .ensures .before 0 (c .if-p-gt0 .taken))
+          (λ z. c .find-pivot-p .ensures .found (omega arith) (sym (getD-row w p (c .args .c) s (c .pre .column)) ∙ ap (λ m. getD (row w m s) (c .args .c) 0) pk ∙ z)));
       grid = λ _. subst (λ (r : List ℕ). Grid F w n (ys ++ r)) (sym t) (raised-grid F L w (c .args .c) n k s ys (c .pre .size) within is (c .pre .grid));
       keeps = λ _ u h. raised-keeps F L w (c .args .c) n k s ys (c .pre .size) within is u (subst (λ (r : List ℕ). Solves F w (c .args .c) n (ys ++ r) u) t h);
     }
