@@ -67,7 +67,11 @@ fn named_field(line: &str) -> Option<Named> {
 }
 
 // The numbers with which a line goes on, each below the field's order.
-fn numbers<F: Field>(heap: Global, field: &F, words: SplitWhitespace<'_>) -> Result<Vec<u16>, Trouble> {
+fn numbers<F: Field>(
+    heap: Global,
+    field: &F,
+    words: SplitWhitespace<'_>,
+) -> Result<Vec<u16>, Trouble> {
     let mut list = Vec::new(heap);
     for text in words {
         let Ok(number) = text.parse::<u16>() else {
@@ -84,7 +88,12 @@ fn numbers<F: Field>(heap: Global, field: &F, words: SplitWhitespace<'_>) -> Res
 }
 
 // The word of a message: the values of its polynomial at the points.
-fn word_of<F: Field>(heap: Global, field: &F, points: &[u16], message: &[u16]) -> Result<Vec<u16>, AllocError>
+fn word_of<F: Field>(
+    heap: Global,
+    field: &F,
+    points: &[u16],
+    message: &[u16],
+) -> Result<Vec<u16>, AllocError>
     ensures { λ r. ⌜ made r (λ v. vec-items v ≡ word (operations F·Field (now (field .entry))) (now (points .entry)) (now (message .entry))) ⌝ }
 {
     let mut entries = Vec::new(heap);
@@ -104,7 +113,12 @@ fn print_word(rt: &LibcRuntime, numbers: &[u16]) -> io::Result<()> {
 }
 
 // Answers one line: points are kept for the messages that follow, and a message's word is printed.
-fn answer_line<F: Field>(rt: &LibcRuntime, field: &F, points: &mut Vec<u16>, line: &str) -> io::Result<Option<Trouble>> {
+fn answer_line<F: Field>(
+    rt: &LibcRuntime,
+    field: &F,
+    points: &mut Vec<u16>,
+    line: &str,
+) -> io::Result<Option<Trouble>> {
     let heap = rt.alloc();
     let mut words = line.split_whitespace();
     match words.next() {
@@ -136,7 +150,11 @@ fn answer_lines<F: Field>(rt: &LibcRuntime, field: &F, lines: Lines<'_>) -> io::
         match answer_line(rt, field, &mut points, line)? {
             None => {}
             Some(Trouble::Unknown) => println!(rt, "line {at}: not understood")?,
-            Some(Trouble::Number(number)) => println!(rt, "line {at}: {number} is not below {}", field.order())?,
+            Some(Trouble::Number(number)) => println!(
+                rt,
+                "line {at}: {number} is not below {}",
+                field.order()
+            )?,
             Some(Trouble::Memory) => println!(rt, "line {at}: no memory")?,
         }
     }
@@ -146,10 +164,41 @@ fn answer_lines<F: Field>(rt: &LibcRuntime, field: &F, lines: Lines<'_>) -> io::
 fn main(rt: LibcRuntime) -> Result<(), AnyError> {
     let text = io::read_to_string(rt.alloc(), rt.stdin())?;
     let mut lines = text.as_str().lines();
-    match named_field(lines.next().unwrap_or("")) {
-        Some(Named::Bytes(field)) => answer_lines(&rt, &field, lines)?,
-        Some(Named::Remainders(field)) => answer_lines(&rt, &field, lines)?,
-        None => println!(rt, "line 1: `field gf256`, or `field prime` and a listed modulus, was expected")?,
+    let Some(named) = named_field(lines.next().unwrap_or("")) else {
+        println!(
+            rt,
+            "line 1: `field gf256`, or `field prime` and a listed modulus, was expected"
+        )?;
+        return Ok(());
+    };
+    match named {
+        Named::Bytes(field) => answer_lines(&rt, &field, lines)?,
+        Named::Remainders(field) => answer_lines(&rt, &field, lines)?,
     }
     Ok(())
+}
+
+#[cfg(test)]
+mod tests {
+    use super::*;
+    use fields::fault::FieldFaultDebug;
+    use std::test::*;
+
+    #[test]
+    fn words_over_both_fields(rt: LibcRuntime) -> Result<(), Fail> {
+        let heap = rt.alloc();
+        let seven = Prime::new(7)?;
+        check_eq(
+            word_of(heap, &seven, &[1, 2, 3, 4, 5, 6], &[3, 0, 2, 1])?.as_slice(),
+            &[6, 5, 6, 1, 3, 4],
+        )?;
+        check_eq(
+            word_of(heap, &seven, &[1, 3, 2, 6, 4, 5], &[3, 0, 2, 1])?.as_slice(),
+            &[6, 6, 5, 4, 1, 3],
+        )?;
+        check_eq(
+            word_of(heap, &Gf256::new(), &[0, 1, 2], &[5, 7])?.as_slice(),
+            &[5, 2, 11],
+        )
+    }
 }
