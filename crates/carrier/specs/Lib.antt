@@ -1,0 +1,10 @@
+pub mod Book
+pub mod Kept
+pub mod Faults
+pub mod Checks
+pub mod Sheets
+pub mod Records
+pub mod Replies
+pub mod Promise
+pub mod Steps
+pub mod Driven
