@@ -14,7 +14,7 @@ use Rattle.fields.specs.Arithmetic.{Arithmetic}
 use Rattle.fields.specs.Numbers.{Below, Zeros}
 use Rattle.fields.proofs.Algebra
 use Rattle.fields.proofs.Total.{TotalLaws}
-use Rattle.linear.specs.Division.{Shorter, Divided}
+use Rattle.linear.specs.Division.{Leads, Shorter, Divided}
 use Rattle.linear.specs.Equations.{reduced}
 use Rattle.linear.specs.Polynomials.{value, added, scaled, product, Same}
 use Rattle.linear.proofs.Coefficients
@@ -58,13 +58,6 @@ zeros-later l m r h z =
     let e : l + (m - l) ≡ m = omega arith in
     subst (λ k. Zeros (drop k r)) e (subst Zeros (drop-drop (m - l) l r) (all-drop (λ x. x ≡ 0) (m - l) (drop l r) z))
 
--- the divisor s has its highest number other than 0 at `lead`
-pub record Leads (q lead : ℕ) (s : List ℕ) : Type 0 where
-  pub within : lead < length s
-  pub below : Below q s
-  pub number : getD s lead 0 ≢ 0
-  pub last : Zeros (drop (lead + 1) s)
-
 -- division of p by s done down to place i, where d holds what is left of p and c the quotient
 pub record Down (F : Arithmetic) (lead : ℕ) (p s : List ℕ) (i : ℕ) (d c : List ℕ) : Type 0 where
   pub untouched : take i d ≡ take i p
@@ -95,7 +88,7 @@ module _ (F : Arithmetic) (L : TotalLaws F) where
       let opened : Zeros (added F (0 ∷ product F a s) t) = subst Zeros (Coefficients.added-left F L (scaled F b s) (0 ∷ product F a s) r) z in
       let under : Zeros (added F (product F a s) (drop 1 t)) × (Zeros (drop 1 t) → Zeros t) = under-constant (product F a s) t t-below opened in
       let e : lead + 1 ≡ 1 + lead = omega arith in
-      let s-last : Zeros (drop (1 + lead) s) = subst (λ k. Zeros (drop k s)) e (S .last) in
+      let s-last : Zeros (drop (1 + lead) s) = subst (λ k. Zeros (drop k s)) e (S .highest .2) in
       let r-last : Zeros (drop (1 + lead) r) = zeros-later lead (1 + lead) r (omega arith) short in
       let t-short : Zeros (drop lead (drop 1 t)) =
       subst Zeros (sym (drop-drop lead 1 t ∙ drop-added F (1 + lead) (scaled F b s) r ∙ ap (λ x. added F x (drop (1 + lead) r)) (drop-map (F .times b) (1 + lead) s)))
@@ -103,19 +96,19 @@ module _ (F : Arithmetic) (L : TotalLaws F) where
       let rest : Zeros a × Zeros (drop 1 t) = zero-alone lead s S a (drop 1 t) (ha .1) (all-drop (λ x. x < q) 1 t t-below) t-short (under .0) in
       let t-zeros : Zeros t = under .1 (rest .1) in
       let r-lead : getD r lead 0 ≡ 0 = ap (λ k. getD r k 0) zero-more ∙ sym (getD-drop lead r 0 0) ∙ Coefficients.getD-zeros (drop lead r) 0 short in
-      let s-lead : getD s lead 0 < q = all-getD (λ x. x < q) s lead 0 (S .within) (S .below) in
+      let s-lead : getD s lead 0 < q = all-getD (λ x. x < q) s lead 0 (S .highest .0) (S .below) in
       let here : b ⊗ getD s lead 0 ≡ 0 =
       sym (L .plus-zero (b ⊗ getD s lead 0) (L .times-below b (getD s lead 0)))
       ∙ ap₂ _⊕_ (sym (Coefficients.getD-scaled F L b s lead)) (sym r-lead)
       ∙ sym (Coefficients.getD-sum F L (scaled F b s) r lead (Values.scaled-below F L b s) hr) ∙ Coefficients.getD-zeros t lead t-zeros in
-      let b-zero : b ≡ 0 = Algebra.no-divisor F L (getD s lead 0) b s-lead (S .number) (ha .0) (L .times-comm (getD s lead 0) b ∙ here) in
+      let b-zero : b ≡ 0 = Algebra.no-divisor F L (getD s lead 0) b s-lead (S .highest .1) (ha .0) (L .times-comm (getD s lead 0) b ∙ here) in
       ((b-zero, rest .0), Coefficients.zeros-right F L (scaled F b s) r hr (Coefficients.zeros-by-zero F L b s b-zero) t-zeros)
     where
       zero-more : lead ≡ lead + 0
       zero-more = omega arith
 
   shorter-lead : (lead : ℕ) (s r : List ℕ) → Leads q lead s → Shorter r s → Zeros (drop lead r)
-  shorter-lead lead s r S h = zeros-later (h .0) lead r (lead-highest lead (h .0) s (S .last) (h .1)) (h .2)
+  shorter-lead lead s r S h = zeros-later (h .0) lead r (lead-highest lead (h .0) s (S .highest .2) (h .1)) (h .2)
 
   -- two quotients with remainders shorter than s, of one polynomial, are one
   pub division-alone : (lead : ℕ) (p s a b c d : List ℕ) → Leads q lead s → length a ≡ length c → length b ≡ length d → Below q a → Below q b → Below q c → Below q d
@@ -164,7 +157,7 @@ module _ (F : Arithmetic) (L : TotalLaws F) where
     left = putMid j w d (reduced F (take w (drop j d)) y (take w s))
 
     s-long : length (take w s) ≡ w
-    s-long = length-take-le w s (omega (arith, S .within))
+    s-long = length-take-le w s (omega (arith, S .highest .0))
 
     left-from : drop j left ≡ added F (drop j d) (scaled F (neg y) (take w s))
     left-from = drop-row F j w y d (take w s) s-long (omega arith)
@@ -192,13 +185,13 @@ module _ (F : Arithmetic) (L : TotalLaws F) where
         let a = getD s lead 0 in
         let later : j + lead + 1 ≡ i + lead = omega arith in
         let xq : x < q = all-getD (λ v. v < q) d (j + lead) 0 (omega arith) (down .left-below) in
-        let aq : a < q = all-getD (λ v. v < q) s lead 0 (S .within) (S .below) in
-        let top : drop lead (take w s) ≡ a ∷ [] = drop-take lead 1 s ∙ ap (take 1) (drop-more s lead 0 (S .within)) in
+        let aq : a < q = all-getD (λ v. v < q) s lead 0 (S .highest .0) (S .below) in
+        let top : drop lead (take w s) ≡ a ∷ [] = drop-take lead 1 s ∙ ap (take 1) (drop-more s lead 0 (S .highest .0)) in
         let from : drop (j + lead) left ≡ added F (drop (j + lead) d) (scaled F (neg y) (a ∷ [])) =
         sym (drop-drop lead j left) ∙ ap (drop lead) left-from ∙ drop-added F lead (drop j d) (scaled F (neg y) (take w s))
         ∙ ap₂ (added F) (drop-drop lead j d) (drop-map (F .times (neg y)) lead (take w s) ∙ ap (scaled F (neg y)) top) in
         let d-from : drop (j + lead) d ≡ x ∷ drop (i + lead) d = drop-more d (j + lead) 0 (omega arith) ∙ ap (λ n. x ∷ drop n d) later in
-        let gone : x ⊕ neg y ⊗ a ≡ 0 = ap (λ v. x ⊕ neg v ⊗ a) is ∙ quotient-takes x a xq aq (S .number) in
+        let gone : x ⊕ neg y ⊗ a ≡ 0 = ap (λ v. x ⊕ neg v ⊗ a) is ∙ quotient-takes x a xq aq (S .highest .1) in
         let is-left : drop (j + lead) left ≡ (x ⊕ neg y ⊗ a) ∷ drop (i + lead) d =
         from ∙ ap (λ t. added F t ((neg y ⊗ a) ∷ [])) d-from ∙ ap (λ t. (x ⊕ neg y ⊗ a) ∷ t) (added-nil F (drop (i + lead) d)) in
         subst Zeros (sym is-left) (gone, down .cleared)
@@ -225,7 +218,7 @@ module _ (F : Arithmetic) (L : TotalLaws F) where
         turn-here k
         ∙ sym (ap (λ t. getD t k 0) turn-sum
         ∙ Coefficients.added-zeros F L ((0 ⊕ getD d j 0) ∷ m) (added F (scaled F y s) (scaled F (neg y) (take w s))) k (L .plus-below 0 (getD d j 0), m-below)
-        (Coefficients.zeros-opposite F L y w s (S .last)))
+        (Coefficients.zeros-opposite F L y w s (S .highest .2)))
 
     pub down-more : Down F lead p s j (putMid j (lead + 1) d (reduced F (take (lead + 1) (drop j d)) y (take (lead + 1) s))) (set c j y)
     down-more =
@@ -242,7 +235,7 @@ module _ (F : Arithmetic) (L : TotalLaws F) where
   pub down-done : (lead : ℕ) (p s d c : List ℕ) → Leads q lead s → length d ≡ length p → length c ≡ length p → Down F lead p s 0 d c → Divided F p s c d
   down-done lead p s d c S d-long c-long down =
       let zero-lead : 0 + lead ≡ lead = omega arith in
-      let short : Shorter d s = (lead, S .number, subst (λ k. Zeros (drop k d)) zero-lead (down .cleared)) in
+      let short : Shorter d s = (lead, S .highest .1, subst (λ k. Zeros (drop k d)) zero-lead (down .cleared)) in
       record {
         whole = down .whole;
         values = λ x. Coefficients.value-same F L p (added F (product F c s) d) x (down .whole) ∙ Values.value-added F L (product F c s) d x ∙ ap (λ v. v ⊕ value F d x) (Values.value-product F L c s x);

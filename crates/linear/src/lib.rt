@@ -1,4 +1,5 @@
 // Polynomials and linear equations over any field, on lent numbers.
+pub mod divide;
 pub mod fault;
 mod numbers;
 pub mod polynomial;
