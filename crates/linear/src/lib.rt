@@ -5,3 +5,5 @@ mod numbers;
 pub mod polynomial;
 mod rows;
 pub mod solve;
+#[cfg(test)]
+mod tests;
