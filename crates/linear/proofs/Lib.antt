@@ -8,3 +8,5 @@ pub mod Distance
 pub mod Grid
 pub mod Kernel
 pub mod Elimination
+pub mod Coefficients
+pub mod Division

@@ -4,7 +4,7 @@ use mathlib.Core.Path.{_≡_}
 use Prim.Native.Nat.{ℕ, _+_, _*_, _<_}
 use lib.Dec.{ltb, leb}
 use lib.ListN.{length, take, drop}
-use Rattle.std.specs.declared.result.Result.the-variants.{Ok}
+use Rattle.std.specs.declared.result.Result.the-variants.{Ok, Err}
 use Rattle.fields.specs.Arithmetic.{Arithmetic}
 use Rattle.fields.specs.Numbers.{Below, Zeros}
 use Rattle.linear.specs.Checks.{Check, unless, unless-found, stray}
@@ -49,3 +49,8 @@ solve-check q s n w =
     unless (ltb n w) Unknowns
     (unless (leb ((n + 1) * w) (length s)) Scratch
     (unless-found (stray q 0 (take (n * w) s)) Number (Ok tt)))
+
+-- what solving n equations leaves in the scratch s and in v: a solution, or what they held where it is refused
+abbrev pub Solved : Arithmetic → ℕ → (s s′ v v′ : List ℕ) → Check SolveFault → Type 0
+Solved F n s s′ v v′ (Ok u) = Solution F (length v) n s v′
+Solved F n s s′ v v′ (Err fault) = (s′ ≡ s) × (v′ ≡ v)

@@ -5,9 +5,8 @@ ghost use mathlib.Core.Logic.{_≢_};
 ghost use mathlib.Core.Path.{_≡_};
 ghost use Prim.Native.Nat.{ℕ, _+_, _*_, _<_, _≤_};
 ghost use lib.ListN.{length, getD, drop};
-ghost use Rattle.std.specs.Results.{Cases};
 ghost use Rattle.fields.specs.Numbers.{Below, Zeros};
-ghost use Rattle.linear.specs.Equations.{row, reduced, Solves, Grid, Solution, solve-check};
+ghost use Rattle.linear.specs.Equations.{row, reduced, Solves, Grid, Solution, Solved, solve-check};
 ghost use Rattle.linear.specs.Operations.{operations};
 use crate::fault::SolveFault;
 use crate::numbers::find_stray;
@@ -25,7 +24,7 @@ pub fn solve<F: Field>(
     solution: &mut [u16],
 ) -> Result<(), SolveFault>
     ensures answer { λ r. ⌜ r ≡ solve-check (operations F·Field (now (f .entry)) .order) (now (scratch .entry)) count (length (now (solution .entry))) ⌝ }
-    ensures solved { λ r. ⌜ Cases r (λ _. Solution (operations F·Field (now (f .entry))) (length (now (solution .entry))) count (now (scratch .entry)) (now (solution .exit))) (λ _. (now (scratch .exit) ≡ now (scratch .entry)) × (now (solution .exit) ≡ now (solution .entry))) ⌝ }
+    ensures solved { λ r. ⌜ Solved (operations F·Field (now (f .entry))) count (now (scratch .entry)) (now (scratch .exit)) (now (solution .entry)) (now (solution .exit)) r ⌝ }
     ensures rest { λ _. ⌜ drop ((count + 1) * length (now (solution .entry))) (now (scratch .exit)) ≡ drop ((count + 1) * length (now (solution .entry))) (now (scratch .entry)) ⌝ }
 {
     let w = solution.len();

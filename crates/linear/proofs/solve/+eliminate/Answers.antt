@@ -18,7 +18,7 @@ use Rattle.linear.specs.Equations.{row, dot, reduced, Grid, Solves}
 use Rattle.fields.proofs.Algebra.{one-below, zero-below}
 use Rattle.linear.proofs.Grid.{row-ends, getD-row, length-row, row-zero, row-first, row-rest}
 use Rattle.linear.proofs.Kernel.{dot-zeros}
-use Rattle.linear.proofs.Elimination.{under-zero, zeros-replicate, rest-grid, step-solves}
+use Rattle.linear.proofs.Elimination.{Column, column-made, under-zero, zeros-replicate, rest-grid, step-solves}
 use Rattle.linear.proofs.solve.+eliminate.Needs as need
 
 pub returns-then-not-place-pivot : need.returns-then-not-place-pivot
@@ -70,8 +70,19 @@ unreachable-requires g t c κs =
     let below : getD top k 0 < F .order = all-getD (λ x. x < F .order) top k 0 (omega arith) grid′ in
     c .place-pivot .ensures .lead came (here ∙ inverse-none (g .F·Field .arithmetic f) (getD top k 0) (c .in-rest .ensures tt) below)
 
+pub clear-column-requires : need.clear-column-requires
+clear-column-requires g t c κs =
+    let some : 0 < c .args .count = c .place-pivot .ensures .some (c .if-not-place-pivot .left) in
+    let w = c .args .w in
+    let n = c .args .count - 1 in
+    let next : c .args .count ≡ suc n = omega arith in
+    let times : c .args .count * w ≡ n * w + w = ap (λ m. m * w) next ∙ suc-mul n w in
+    let back : length (c .split-at-mut-first .result .1 .now) + w ≡ length (c .place-pivot .last .rows) = c .split-at-mut-first .ensures .back-len in
+    let kept : length (c .place-pivot .last .rows) ≡ length (c .args .rows .now) = c .place-pivot .kept .rows in
+    record { size = omega (arith, c .pre .size); column = omega (arith, c .pre .column); wide = c .scale-row .kept .row ∙ c .split-at-mut-first .ensures .front-len }
+
 pub eliminate-requires : need.eliminate-requires
-eliminate-requires g t c κs within =
+eliminate-requires g t c κs falls =
     let f = c .args .f .now in
     let F = operations (g .F·Field) f in
     let L : TotalLaws F = lawful (g .F·Field) f (g .F·Field·met .sizes f) (g .F·Field·met .sums f) (g .F·Field·met .products f) (g .F·Field·met .inverses f) in
@@ -79,31 +90,18 @@ eliminate-requires g t c κs within =
     let k = c .args .c in
     let n = c .args .count - 1 in
     let came : c .place-pivot .result ≡ true = c .if-not-place-pivot .left in
-    let some : 0 < c .args .count = c .place-pivot .ensures .some came in
     let s = c .place-pivot .last .rows in
     let top = c .split-at-mut-first .result .0 .now in
     let rest = c .split-at-mut-first .result .1 .now in
     let rest′ = c .clear-column .last .rows in
     let value : s ≡ top ++ rest = c .split-at-mut-first .ensures .value in
-    let wide : length top ≡ w = c .split-at-mut-first .ensures .front-len in
-    let back : length rest + w ≡ length s = c .split-at-mut-first .ensures .back-len in
-    let kept : length s ≡ length (c .args .rows .now) = c .place-pivot .kept .rows in
-    let size : c .args .count * w ≡ length (c .args .rows .now) = c .pre .size in
-    let count : c .args .count ≡ suc n = omega arith in
-    let times : c .args .count * w ≡ n * w + w = ap (λ m. m * w) count ∙ suc-mul n w in
-    let long : n * w ≡ length rest = omega arith in
-    let kept′ : length rest′ ≡ length rest = c .clear-column .kept .rows in
-    let long′ : n * w ≡ length rest′ = omega arith in
-    let cw : k < w = omega (arith, c .pre .column) in
-    let inverse : (c .in-Some .inverse ≡ F .inverse (getD top k 0)) × (getD top k 0 < F .order) × (getD top k 0 ≢ 0) = inverse-some (g .F·Field .arithmetic f) (getD top k 0) (c .in-Some .inverse) (c .in-Some .ensures tt) in
-    let first : c .scale-row .last .row ≡ scaled F (F .inverse (getD top k 0)) top = c .scale-row .ensures ∙ ap (λ b. scaled F b top) (inverse .0) in
-    let grid : Grid F w (suc n) s = subst (λ (m : ℕ). Grid F w m s) count (c .place-pivot .ensures .grid came) in
-    let grid-rest : Grid F w n rest = λ i l. subst (Below (F .order)) (ap (row w (suc i)) value ∙ row-rest w i top rest wide) (grid (suc i) (omega arith)) in
-    let cleared : (i : ℕ) → i < n → row w i rest′ ≡ reduced F (row w i rest) (getD (row w i rest) k 0) (c .scale-row .last .row) = c .clear-column .ensures in
-    let cleared′ : (i : ℕ) → i < n → row w i rest′ ≡ reduced F (row w i rest) (getD (row w i rest) k 0) (scaled F (F .inverse (getD top k 0)) top) =
-    λ i l. cleared i l ∙ ap (reduced F (row w i rest) (getD (row w i rest) k 0)) first in
+    let within : k < w = omega (arith, c .pre .column) in
+    let made : Column F w k n top rest rest′ × (c .scale-row .last .row ≡ scaled F (F .inverse (getD top k 0)) top) =
+    column-made (g .F·Field .arithmetic f) w k (c .args .count) (c .in-Some .inverse) s top rest rest′ (c .scale-row .last .row) within (c .place-pivot .ensures .some came) (c .pre .size ∙ sym (c .place-pivot .kept .rows)) value
+    (c .split-at-mut-first .ensures .front-len) (c .clear-column .kept .rows) (c .place-pivot .ensures .grid came) (c .in-Some .ensures tt) (c .scale-row .ensures) (c .clear-column .ensures) in
+    let some : 0 < c .args .count = c .place-pivot .ensures .some came in
     let spare : length (c .place-pivot .last .spare) ≡ w = c .place-pivot .kept .spare ∙ c .pre .room in
-    (omega arith, (within, (long′, (omega (arith, c .pre .column), (spare, (c .pre .unknowns, rest-grid F L w k n top rest rest′ cw wide long long′ (inverse .1) (inverse .2) grid-rest cleared′))))))
+    (omega arith, (falls, (made .0 .long′, (omega (arith, c .pre .column), (spare, (c .pre .unknowns, rest-grid F L w k n top rest rest′ (made .0)))))))
 
 pub returns : need.returns
 returns g t c =
@@ -114,44 +112,32 @@ returns g t c =
     let k = c .args .c in
     let n = c .args .count - 1 in
     let came : c .place-pivot .result ≡ true = c .if-not-place-pivot .left in
-    let some : 0 < c .args .count = c .place-pivot .ensures .some came in
     let s = c .place-pivot .last .rows in
     let top = c .split-at-mut-first .result .0 .now in
     let rest = c .split-at-mut-first .result .1 .now in
     let rest′ = c .clear-column .last .rows in
     let value : s ≡ top ++ rest = c .split-at-mut-first .ensures .value in
-    let wide : length top ≡ w = c .split-at-mut-first .ensures .front-len in
-    let back : length rest + w ≡ length s = c .split-at-mut-first .ensures .back-len in
-    let kept : length s ≡ length (c .args .rows .now) = c .place-pivot .kept .rows in
-    let size : c .args .count * w ≡ length (c .args .rows .now) = c .pre .size in
-    let count : c .args .count ≡ suc n = omega arith in
-    let times : c .args .count * w ≡ n * w + w = ap (λ m. m * w) count ∙ suc-mul n w in
-    let long : n * w ≡ length rest = omega arith in
-    let kept′ : length rest′ ≡ length rest = c .clear-column .kept .rows in
-    let long′ : n * w ≡ length rest′ = omega arith in
-    let cw : k < w = omega (arith, c .pre .column) in
-    let inverse : (c .in-Some .inverse ≡ F .inverse (getD top k 0)) × (getD top k 0 < F .order) × (getD top k 0 ≢ 0) = inverse-some (g .F·Field .arithmetic f) (getD top k 0) (c .in-Some .inverse) (c .in-Some .ensures tt) in
-    let first : c .scale-row .last .row ≡ scaled F (F .inverse (getD top k 0)) top = c .scale-row .ensures ∙ ap (λ b. scaled F b top) (inverse .0) in
-    let grid : Grid F w (suc n) s = subst (λ (m : ℕ). Grid F w m s) count (c .place-pivot .ensures .grid came) in
-    let grid-rest : Grid F w n rest = λ i l. subst (Below (F .order)) (ap (row w (suc i)) value ∙ row-rest w i top rest wide) (grid (suc i) (omega arith)) in
-    let cleared : (i : ℕ) → i < n → row w i rest′ ≡ reduced F (row w i rest) (getD (row w i rest) k 0) (c .scale-row .last .row) = c .clear-column .ensures in
-    let cleared′ : (i : ℕ) → i < n → row w i rest′ ≡ reduced F (row w i rest) (getD (row w i rest) k 0) (scaled F (F .inverse (getD top k 0)) top) =
-    λ i l. cleared i l ∙ ap (reduced F (row w i rest) (getD (row w i rest) k 0)) first in
+    let within : k < w = omega (arith, c .pre .column) in
+    let made : Column F w k n top rest rest′ × (c .scale-row .last .row ≡ scaled F (F .inverse (getD top k 0)) top) =
+    column-made (g .F·Field .arithmetic f) w k (c .args .count) (c .in-Some .inverse) s top rest rest′ (c .scale-row .last .row) within (c .place-pivot .ensures .some came) (c .pre .size ∙ sym (c .place-pivot .kept .rows)) value
+    (c .split-at-mut-first .ensures .front-len) (c .clear-column .kept .rows) (c .place-pivot .ensures .grid came) (c .in-Some .ensures tt) (c .scale-row .ensures) (c .clear-column .ensures) in
+    let some : 0 < c .args .count = c .place-pivot .ensures .some came in
     let v = c .eliminate .last .v in
-    let vlong : length v ≡ w = c .eliminate .kept .v ∙ c .pre .unknowns in
-    let one = c .scale-row .last .row in
-    let first-long : length one ≡ w = c .scale-row .kept .row ∙ wide in
-    let part : take (w - (k + 1)) (drop (k + 1) one) ≡ drop (k + 1) one = take-all (w - (k + 1)) (drop (k + 1) one) (omega (arith, length-drop (k + 1) one)) in
+    let v-long : length v ≡ w = c .eliminate .kept .v ∙ c .pre .unknowns in
+    let first = c .scale-row .last .row in
+    let first-long : length first ≡ w = c .scale-row .kept .row ∙ made .0 .wide in
+    let part : take (w - (k + 1)) (drop (k + 1) first) ≡ drop (k + 1) first = take-all (w - (k + 1)) (drop (k + 1) first) (omega (arith, length-drop (k + 1) first)) in
     let part′ : take (w - (k + 1)) (drop (k + 1) v) ≡ drop (k + 1) v = take-all (w - (k + 1)) (drop (k + 1) v) (omega (arith, length-drop (k + 1) v)) in
-    let sum : c .multiply-rows .result ≡ dot F (take (w - (k + 1)) (drop (k + 1) one)) (take (w - (k + 1)) (drop (k + 1) v)) = c .multiply-rows .ensures in
+    let sum : c .multiply-rows .result ≡ dot F (take (w - (k + 1)) (drop (k + 1) first)) (take (w - (k + 1)) (drop (k + 1) v)) = c .multiply-rows .ensures in
     let y : c .negate .result ≡ F .opposite (dot F (drop (k + 1) (scaled F (F .inverse (getD top k 0)) top)) (drop (k + 1) v)) =
-    c .negate .ensures ∙ ap (F .opposite) (sum ∙ ap₂ (dot F) (part ∙ ap (drop (k + 1)) first) part′) in
+    c .negate .ensures ∙ ap (F .opposite) (sum ∙ ap₂ (dot F) (part ∙ ap (drop (k + 1)) (made .1)) part′) in
     let u : drop k (set v k (c .negate .result)) ≡ F .opposite (dot F (drop (k + 1) (scaled F (F .inverse (getD top k 0)) top)) (drop (k + 1) v)) ∷ drop (k + 1) v =
     drop-set v k (c .negate .result) (omega arith) ∙ ap (λ x. x ∷ drop (k + 1) v) y in
     let solved : Solves F w (k + 1) n rest′ (drop (k + 1) v) = c .eliminate .ensures .solves in
     let all : Solves F w k (suc n) (top ++ rest) (drop k (set v k (c .negate .result))) =
-    subst (Solves F w k (suc n) (top ++ rest)) (sym u) (step-solves F L w k n top rest rest′ cw wide long long′ (inverse .1) (inverse .2) grid-rest cleared′ (drop (k + 1) v) solved) in
-    let whole : Solves F w k (c .args .count) s (drop k (set v k (c .negate .result))) = λ i l. ap (λ r. dot F (drop k (row w i r)) (drop k (set v k (c .negate .result)))) value ∙ all i (omega arith) in
+    subst (Solves F w k (suc n) (top ++ rest)) (sym u) (step-solves F L w k n top rest rest′ (made .0) (drop (k + 1) v) solved) in
+    let whole : Solves F w k (c .args .count) s (drop k (set v k (c .negate .result))) =
+    λ i l. ap (λ r. dot F (drop k (row w i r)) (drop k (set v k (c .negate .result)))) value ∙ all i (omega arith) in
     record {
       solves = c .place-pivot .ensures .keeps came (drop k (set v k (c .negate .result))) whole;
       nonzero = λ h. c .eliminate .ensures .nonzero (subst Zeros u h .1);
