@@ -5,3 +5,6 @@ mod repetition;
 pub use repetition::Repetition;
 pub use repetition::RepetitionCode;
 pub use repetition::RepetitionIssuer;
+
+#[cfg(test)]
+mod tests;
