@@ -10,3 +10,6 @@ pub use scaled::ScaledIssuer;
 pub use trimmed::Trimmed;
 pub use trimmed::TrimmedCode;
 pub use trimmed::TrimmedIssuer;
+
+#[cfg(test)]
+mod tests;
