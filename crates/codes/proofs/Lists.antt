@@ -16,7 +16,7 @@ getD-counting i zero j h = absurd (omega arith)
 getD-counting i (suc n) zero h = omega arith
 getD-counting i (suc n) (suc j) h = omega (arith, getD-counting (i + 1) n j (omega arith))
 
-getD-zeros : (n k : ℕ) → _≡_ {A = ℕ} (getD (replicate n 0) k 0) 0
+pub getD-zeros : (n k : ℕ) → _≡_ {A = ℕ} (getD (replicate n 0) k 0) 0
 getD-zeros zero k = refl
 getD-zeros (suc n) zero = refl
 getD-zeros (suc n) (suc k) = getD-zeros n k

@@ -9,9 +9,9 @@ use crate::fault::CodeFault;
 pub fn check_numbers(order: u32, numbers: &[u16]) -> Result<(), CodeFault>
     ensures { λ r. ⌜ r ≡ number-check order 0 (now (numbers .entry)) ⌝ }
 {
-    for (i, x) in numbers.iter().enumerate() {
-        if u32::from(*x) >= order {
-            return Err(CodeFault::Number(i));
+    for (place, number) in numbers.iter().enumerate() {
+        if u32::from(*number) >= order {
+            return Err(CodeFault::Number(place));
         }
     }
     Ok(())

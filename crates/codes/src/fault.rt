@@ -97,7 +97,7 @@ impl CodeFault {
 pub impl From<FitnessFault> for CodeFault as FromFitness {
     ghost converts = { λ f r. r ≡ Unfit f };
 
-    fn from(fault: FitnessFault) -> CodeFault {
-        CodeFault::Unfit(fault)
+    fn from(reason: FitnessFault) -> CodeFault {
+        CodeFault::Unfit(reason)
     }
 }

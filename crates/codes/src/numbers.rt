@@ -30,7 +30,7 @@ pub impl<'a> Numbers for &'a [u16] as SliceNumbers {
     }
 
     fn at(&self, i: usize) -> u16 {
-        if i < self.len() { self[i] } else { 0 }
+        number_at(self, i)
     }
 }
 
@@ -42,7 +42,7 @@ pub impl Numbers for Vec<u16> as VecNumbers {
     }
 
     fn at(&self, i: usize) -> u16 {
-        if i < self.len() { self[i] } else { 0 }
+        number_at(self, i)
     }
 }
 
@@ -62,6 +62,13 @@ pub impl Numbers for Upto as UptoNumbers {
     fn at(&self, i: usize) -> u16 {
         if i < self.count as usize { i as u16 } else { 0 }
     }
+}
+
+// The number at a place of a slice, and 0 past its end.
+fn number_at(numbers: &[u16], i: usize) -> u16
+    ensures { λ r. ⌜ r ≡ getD (now (numbers .entry)) i 0 ⌝ }
+{
+    if i < numbers.len() { numbers[i] } else { 0 }
 }
 
 // Room for the longest message or word.

@@ -1,0 +1,3 @@
+pub mod Trim
+pub mod Scale
+pub mod Multiply
