@@ -10,9 +10,9 @@ use lib.ListN.{length, drop, getD}
 use Rattle.std.proofs.shelf.Lists.{at-drop-more, at-drop-all}
 use Rattle.std.proofs.shelf.Tests.{cases-lt}
 use Rattle.std.specs.declared.result.Result.the-variants.{Ok}
-use Rattle.codes.specs.Checks.{unless, number-check, unmarked-check}
+use Rattle.codes.specs.Checks.{unless, number-check, unmarked-check, zero-check}
 use Rattle.codes.specs.Words.{missing, wrong}
-use Rattle.codes.specs.declared.fault.CodeFault.the-variants.{Number}
+use Rattle.codes.specs.declared.fault.CodeFault.the-variants.{Number, Reach}
 
 pub numbers-more : (q : ℕ) (xs : List ℕ) (i : ℕ) → i < length xs
     → number-check q i (drop i xs) ≡ unless (ltb (getD xs i 0) q) (Number i) (number-check q (i + 1) (drop (i + 1) xs))
@@ -48,3 +48,6 @@ unmarked-all q xs ms i h =
       | inl l ↦ at-drop-all (λ x. unmarked-check q i x (drop i ms)) xs i (omega (arith, l))
       | inr l ↦ at-drop-all (unmarked-check q i (drop i xs)) ms i (omega (arith, l)) ∙ no-marks q i (drop i xs)
     ]
+
+pub zeros-more : (xs : List ℕ) (i : ℕ) → i < length xs → zero-check (drop i xs) ≡ unless (eqb (getD xs i 0) 0) Reach (zero-check (drop (i + 1) xs))
+zeros-more xs i h = at-drop-more zero-check xs i 0 h

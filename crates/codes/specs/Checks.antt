@@ -6,7 +6,7 @@ use lib.Dec.{eqb, ltb}
 use Rattle.std.specs.declared.result.Result.{Result}
 use Rattle.std.specs.declared.result.Result.the-variants.{Ok, Err}
 use Rattle.codes.specs.declared.fault.CodeFault.{CodeFault}
-use Rattle.codes.specs.declared.fault.CodeFault.the-variants.{Unfit, Number}
+use Rattle.codes.specs.declared.fault.CodeFault.the-variants.{Unfit, Number, Reach}
 use Rattle.codes.specs.declared.fault.FitnessFault.{FitnessFault}
 
 -- passed, or the fault
@@ -37,6 +37,11 @@ abbrev pub unmarked-check : ℕ → ℕ → List ℕ → List ℕ → Check Code
 unmarked-check q i [] ms = Ok tt
 unmarked-check q i (x ∷ xs) [] = Ok tt
 unmarked-check q i (x ∷ xs) (m ∷ ms) = cond (eqb m 0) (unless (ltb x q) (Number i) (unmarked-check q (i + 1) xs ms)) (unmarked-check q (i + 1) xs ms)
+
+-- every number is 0, or there is no message within reach
+abbrev pub zero-check : List ℕ → Check CodeFault
+zero-check [] = Ok tt
+zero-check (x ∷ xs) = unless (eqb x 0) Reach (zero-check xs)
 
 -- what a buffer holds after a call: the result where the checks pass, and what it held where they do not
 abbrev pub written : Check CodeFault → List ℕ → List ℕ → List ℕ

@@ -1,7 +1,7 @@
 // The checks and counts that every code shares.
 ghost use mathlib.Core.Path.{_≡_};
 ghost use Prim.Native.Nat.{ℕ};
-ghost use Rattle.codes.specs.Checks.{number-check, unmarked-check};
+ghost use Rattle.codes.specs.Checks.{number-check, unmarked-check, zero-check};
 ghost use Rattle.codes.specs.Words.{missing};
 use crate::fault::CodeFault;
 
@@ -41,4 +41,16 @@ pub fn count_missing(marks: &[u8]) -> usize
         }
     }
     count
+}
+
+// Refuses numbers that are not all 0, since there is then no message within reach.
+pub fn check_zeros(numbers: &[u16]) -> Result<(), CodeFault>
+    ensures { λ r. ⌜ r ≡ zero-check (now (numbers .entry)) ⌝ }
+{
+    for x in numbers {
+        if *x != 0 {
+            return Err(CodeFault::Reach);
+        }
+    }
+    Ok(())
 }

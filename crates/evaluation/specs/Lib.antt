@@ -1,0 +1,3 @@
+pub mod Evaluation
+pub mod Decoding
+pub mod Made
