@@ -14,10 +14,10 @@ ghost use Rattle.codes.specs.Meaning.{Solved};
 ghost use Rattle.codes.specs.Words.{wrong};
 ghost use Rattle.evaluation.specs.Decoding.{present, Given, Located, Quotient};
 ghost use Rattle.evaluation.specs.Evaluation.{evaluation};
+use crate::equations::write_equations;
 use codes::checks::check_zeros;
 use codes::checks::count_missing;
 use codes::fault::CodeFault;
-use crate::equations::write_equations;
 use fields::field::Field;
 use linear::divide::divide;
 use linear::polynomial::evaluate;
@@ -77,7 +77,13 @@ fn locate<F: Field>(
 }
 
 // Writes −Q0 / Q1 where that is a polynomial of as many numbers as the message has.
-fn divide_out<F: Field>(f: &F, q0: &mut [u16], q1: &[u16], quotient: &mut [u16], message: &mut [u16]) -> Result<(), CodeFault>
+fn divide_out<F: Field>(
+    f: &F,
+    q0: &mut [u16],
+    q1: &[u16],
+    quotient: &mut [u16],
+    message: &mut [u16],
+) -> Result<(), CodeFault>
     requires dividend { ⌜ Below (operations F·Field (now f) .order) (now q0) ⌝ }
     requires divisor { ⌜ Below (operations F·Field (now f) .order) (now q1) ⌝ }
     requires nonzero { ⌜ (Zeros (now q1) → ⊥) ⌝ }
@@ -106,7 +112,13 @@ fn write_opposites<F: Field>(f: &F, numbers: &[u16], out: &mut [u16])
 }
 
 // In how many unmarked places the received number differs from the message's word.
-fn count_wrong<F: Field>(f: &F, points: &[u16], received: &[u16], marks: &[u8], message: &[u16]) -> usize
+fn count_wrong<F: Field>(
+    f: &F,
+    points: &[u16],
+    received: &[u16],
+    marks: &[u8],
+    message: &[u16],
+) -> usize
     requires points { ⌜ length (now points) ≡ length (now marks) ⌝ }
     requires received { ⌜ length (now received) ≡ length (now marks) ⌝ }
     ensures { λ r. ⌜ r ≡ wrong (now (received .entry)) (now (marks .entry)) (word (operations F·Field (now (f .entry))) (now (points .entry)) (now (message .entry))) ⌝ }

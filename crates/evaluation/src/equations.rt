@@ -7,7 +7,15 @@ ghost use Rattle.evaluation.specs.Decoding.{present, powers, equation, Equatio
 use fields::field::Field;
 
 // One row for each place that is not marked: the coefficients of Q0(x) + y Q1(x), of which `a` are those of Q0.
-pub fn write_equations<F: Field>(f: &F, rows: &mut [u16], w: usize, a: usize, points: &[u16], received: &[u16], marks: &[u8])
+pub fn write_equations<F: Field>(
+    f: &F,
+    rows: &mut [u16],
+    w: usize,
+    a: usize,
+    points: &[u16],
+    received: &[u16],
+    marks: &[u8],
+)
     requires points { ⌜ length (now points) ≡ length (now marks) ⌝ }
     requires received { ⌜ length (now received) ≡ length (now marks) ⌝ }
     requires split { ⌜ a ≤ w ⌝ }

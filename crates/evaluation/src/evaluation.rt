@@ -5,6 +5,9 @@ ghost use lib.ListN.{length};
 ghost use Rattle.linear.specs.Operations.{operations};
 ghost use Rattle.linear.specs.Polynomials.{word as values};
 ghost use Rattle.evaluation.specs.Evaluation.{evaluation};
+use crate::decode::decode_in;
+use crate::points::check_points;
+use crate::points::check_shape;
 use codes::fault::CodeFault;
 use codes::fault::FitnessFault;
 use codes::fault::FromFitness;
@@ -12,9 +15,6 @@ use codes::interface::Code;
 use codes::interface::Issuer;
 use codes::numbers::Numbers;
 use codes::numbers::gather;
-use crate::decode::decode_in;
-use crate::points::check_points;
-use crate::points::check_shape;
 use fields::field::Field;
 use linear::polynomial::evaluate;
 
@@ -81,7 +81,14 @@ pub impl<F: Field, P: Numbers> Code for Evaluation<F, P> as EvaluationCode {
         self.check_decode(received, marks, message.len(), scratch.len())?;
         let points = gather(&self.points);
         let need = self.need();
-        decode_in(&self.field, &points[0..received.len()], received, marks, message, &mut scratch[0..need])
+        decode_in(
+            &self.field,
+            &points[0..received.len()],
+            received,
+            marks,
+            message,
+            &mut scratch[0..need],
+        )
     }
 }
 

@@ -3,9 +3,9 @@ ghost use mathlib.Core.Path.{_≡_};
 ghost use Prim.Native.Nat.{ℕ, _+_, _*_};
 ghost use Rattle.evaluation.specs.Evaluation.{evaluation, Evaluates};
 ghost use Rattle.evaluation.specs.Made.{meant, needed};
+use super::Evaluation;
 use codes::numbers::Numbers;
 use fields::field::Field;
-use super::Evaluation;
 
 impl<F: Field, P: Numbers> Evaluation<F, P> {
     // The code of k coefficients at n points; the points need not be n, which makes the code unfit.
@@ -14,6 +14,11 @@ impl<F: Field, P: Numbers> Evaluation<F, P> {
         ensures evaluates { λ r. ⌜ Evaluates (F·Field .arithmetic field) n k (P·Numbers .listed points) (meant F·row P·row F·Field P·Numbers r) ⌝ }
         ensures need { λ r. ⌜ needed F·row P·row F·Field P·Numbers r ≡ (n + 1) * (n + 3) ⌝ }
     {
-        Evaluation { field, length: n, dimension: k, points }
+        Evaluation {
+            field,
+            length: n,
+            dimension: k,
+            points,
+        }
     }
 }
