@@ -3,6 +3,7 @@ ghost use mathlib.Core.List.{map};
 ghost use mathlib.Core.Path.{_≡_};
 ghost use Prim.Native.Nat.{ℕ};
 ghost use Rattle.std.specs.declared.result.Result.the-variants.{Ok};
+ghost use Rattle.piles.specs.Keeping.{Keeps, Codes-keep};
 ghost use Rattle.carrier.specs.Book.{after};
 ghost use Rattle.carrier.specs.Promise.{Promise};
 ghost use Rattle.carrier.specs.Records.{meaning-of, records-of, fitness-of, BookBelow};
@@ -14,8 +15,12 @@ use codes::interface::Code;
 use codes::interface::Issuer;
 
 // A new collector of the code and the depth answers the calls, first to last. It allocates nothing and never fails.
+// Its contract is the theorem on runs: what is promised of the calls and their answers, for a code that keeps the code meaning,
+// and that the evaluation and repetition codes, and every pile of layers on them, keep it.
 pub fn run<C: Code + Drop>(code: C, depth: usize, calls: &mut [Call])
-    ensures { λ _. ⌜ Promise (C·Issuer .meaning code) (C·Code .need code) depth (map asked (now (calls .entry))) (map reply (now (calls .exit))) ⌝ }
+    ensures promise { λ _. ⌜ Promise (C·Issuer .meaning code) (C·Code .need code) depth (map asked (now (calls .entry))) (map reply (now (calls .exit))) ⌝ }
+    ensures keeps { λ _. ⌜ Keeps (C·Issuer .meaning code) ⌝ }
+    ensures codes { λ _. ⌜ Codes-keep ⌝ }
 {
     let mut collector = Collector::new(code, depth);
     for i in 0..calls.len() {

@@ -7,6 +7,7 @@ use lib.Seq.{take-all, drop-set-lt}
 use Rattle.std.specs.declared.option.Option.the-variants.{None}
 use Rattle.std.specs.declared.result.Result.the-variants.{Ok}
 use Rattle.std.proofs.shelf.Lists.{map-more, take-more-set, drop-more}
+use Rattle.piles.proofs.Kept.{codes-kept}
 use Rattle.carrier.specs.Book.{Book, Call, after, booked}
 use Rattle.carrier.specs.Checks.{fit-check}
 use Rattle.carrier.specs.Records.{records-of, records, BookBelow}
@@ -101,4 +102,9 @@ returns g c =
     let r2 : R (made .code) (made .depth) (map asked calls) (map reply (c .loop-i .calls)) = subst (λ (x : List Reply). R (made .code) (made .depth) (map asked calls) x) all′ r1 in
     let r3 = subst (λ (d : ℕ). R (made .code) d (map asked calls) (map reply (c .loop-i .calls))) (c .new-collector .ensures .depth) r2 in
     let r4 = subst (λ (x : g .C .Denot). R x (c .args .depth) (map asked calls) (map reply (c .loop-i .calls))) (c .new-collector .ensures .code) r3 in
-    promised (i .meaning (c .args .code)) (g .C·Code .need (c .args .code)) (c .args .depth) (map asked calls) (map reply (c .loop-i .calls)) (λ ok. g .C·Issuer·met .sound (c .args .code) ok) r4
+    let keeps = g .C·Issuer·met .sound (c .args .code) in
+    record {
+      promise = promised (i .meaning (c .args .code)) (g .C·Code .need (c .args .code)) (c .args .depth) (map asked calls) (map reply (c .loop-i .calls)) keeps r4;
+      keeps = keeps;
+      codes = codes-kept;
+    }
