@@ -37,4 +37,18 @@ impl<C: Code> Collector<C> {
         }
         Ok(())
     }
+
+    // The code.
+    pub fn code(&self) -> &C
+        ensures { λ r. ⌜ now r ≡ now (self .entry) .code ⌝ }
+    {
+        &self.code
+    }
+
+    // The depth: how many rows a sheet has.
+    pub fn depth(&self) -> usize
+        ensures { λ r. ⌜ r ≡ now (self .entry) .depth ⌝ }
+    {
+        self.depth
+    }
 }
