@@ -91,7 +91,8 @@ fn eliminate<F: Field>(
         return;
     }
     let (first, rest) = rows.split_at_mut(w);
-    let Some(inverse) = f.inverse(first[c]) else {
+    let pivot = first[c];
+    let Some(inverse) = f.inverse(pivot) else {
         unreachable()
     };
     scale_row(f, first, inverse);
