@@ -1,17 +1,14 @@
 -- Sums, multiples and products of polynomials, coefficient by coefficient.
-use mathlib.Core.List.{List, [], _∷_, map}
-use mathlib.Core.Logic.{_≢_}
+use mathlib.Core.List.{List, [], _∷_}
 use mathlib.Core.Path.{_≡_, refl, sym, ap, ap₂, _∙_, subst}
-use Prim.Native.Nat.{ℕ, zero, suc, _+_, _<_}
-use native.Mathlib.Omega.{arith}
-use lib.ListN.{length, take, drop, getD}
-use Rattle.std.proofs.shelf.Lists.{drop-map}
+use Prim.Native.Nat.{ℕ, zero, suc, _<_}
+use lib.ListN.{take, drop, getD}
 use Rattle.fields.specs.Arithmetic.{Arithmetic}
 use Rattle.fields.specs.Numbers.{Below, Zeros}
 use Rattle.fields.proofs.Algebra
 use Rattle.fields.proofs.Total.{TotalLaws}
 use Rattle.linear.specs.Polynomials.{value, added, scaled, product, Same}
-use Rattle.linear.proofs.Kernel.{added-nil, drop-added}
+use Rattle.linear.proofs.Kernel.{added-nil}
 use Rattle.linear.proofs.Roots
 use Rattle.linear.proofs.Values
 

@@ -5,10 +5,10 @@ use mathlib.Core.Path.{_≡_, refl, sym, ap, ap₂, _∙_, subst}
 use Prim.Native.Nat.{ℕ, zero, suc, _+_, _-_, _<_, _≤_}
 use native.Mathlib.Decide.{decLe}
 use native.Mathlib.Omega.{arith}
-use lib.ListN.{length, length-map, take, drop, set, replicate, getD, length-replicate}
+use lib.ListN.{length, length-map, take, drop, set, replicate, getD}
 use borrow.Rule.Slice.PartMut.{putMid}
 use Rattle.std.proofs.shelf.Elements.{all-getD, all-append, all-take, all-drop, all-set, all-weaker}
-use Rattle.std.proofs.shelf.Lists.{drop-more, drop-at, drop-all, drop-drop, drop-map, drop-set, drop-take, drop-replicate, getD-drop, getD-take, take-take, length-take-le, length-drop}
+use Rattle.std.proofs.shelf.Lists.{drop-more, drop-at, drop-all, drop-drop, drop-map, drop-set, drop-take, getD-drop, getD-take, take-take, length-take-le, length-drop}
 use Rattle.std.proofs.shelf.Parts.{take-putMid-below}
 use Rattle.fields.specs.Arithmetic.{Arithmetic}
 use Rattle.fields.specs.Numbers.{Below, Zeros}

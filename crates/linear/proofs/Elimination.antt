@@ -1,13 +1,13 @@
 -- One column of the elimination.
 use mathlib.Core.Path.{_≡_, refl, sym, ap, ap₂, _∙_, subst}
-use mathlib.Core.List.{List, [], _∷_, _++_, map}
+use mathlib.Core.List.{List, _∷_, _++_}
 use mathlib.Core.Logic.{_≢_}
-use Prim.Native.Nat.{ℕ, _<_, _≤_, _+_, _-_, _*_, zero, suc}
+use Prim.Native.Nat.{ℕ, _<_, _+_, _-_, _*_, zero, suc}
 use native.Mathlib.Nat.{suc-mul}
 use native.Mathlib.Omega.{arith}
-use lib.ListN.{length, getD, take, drop, set, replicate, length-map}
+use lib.ListN.{length, getD, drop, replicate, length-map}
 use Rattle.std.specs.declared.option.Option.the-variants.{Some}
-use Rattle.std.proofs.shelf.Lists.{length-append, drop-map, length-drop, drop-more, drop-set, drop-replicate, getD-map}
+use Rattle.std.proofs.shelf.Lists.{length-append, drop-map, length-drop, drop-more, getD-map}
 use Rattle.std.proofs.shelf.Elements.{all-getD}
 use Rattle.fields.specs.Arithmetic.{Arithmetic, total, inverted}
 use Rattle.fields.proofs.Total.{TotalLaws, inverse-some}

@@ -1,10 +1,10 @@
 -- What row operations do to solutions.
 use mathlib.Core.Path.{_≡_, refl, sym, ap, ap₂, _∙_, subst}
-use mathlib.Core.List.{List, [], _∷_, _++_, map}
-use mathlib.Core.Logic.{_≢_, _⊎_, inl, inr}
+use mathlib.Core.List.{List, [], _∷_, _++_}
+use mathlib.Core.Logic.{_≢_}
 use Prim.Native.Nat.{ℕ, _<_, _≤_, _+_, _*_, zero, suc}
 use native.Mathlib.Omega.{arith}
-use lib.ListN.{length, getD, take, drop}
+use lib.ListN.{length, getD, drop}
 use Rattle.std.proofs.shelf.Lists.{drop-map, length-drop, getD-append-left}
 use Rattle.std.proofs.shelf.Elements.{all-getD}
 use Rattle.fields.specs.Arithmetic.{Arithmetic}
@@ -14,7 +14,7 @@ use Rattle.fields.specs.Numbers.{Below, Zeros}
 use Rattle.linear.specs.Polynomials.{added, scaled}
 use Rattle.linear.specs.Equations.{row, dot, reduced, Solves, Grid}
 use Rattle.linear.proofs.Lists.{getD-added, length-added}
-use Rattle.linear.proofs.Grid.{row-ends, length-row, row-zero, row-suc, row-first, row-rest}
+use Rattle.linear.proofs.Grid.{row-ends, length-row, row-suc, row-first, row-rest}
 
 pub added-nil : (F : Arithmetic) (t : List ℕ) → added F t [] ≡ t
 added-nil F [] = refl

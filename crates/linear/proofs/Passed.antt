@@ -1,7 +1,7 @@
 -- What is known where the checks of a call passed.
-use mathlib.Core.Bool.{Bool, true, false, cond}
+use mathlib.Core.Bool.{Bool, true, false}
 use mathlib.Core.List.{List}
-use mathlib.Core.Path.{_≡_, refl, sym, _∙_}
+use mathlib.Core.Path.{_≡_, refl}
 use Prim.Native.Nat.{ℕ, _+_, _*_, _<_, _≤_}
 use native.Mathlib.Omega.{arith}
 use lib.Dec.{eqb, ltb, leb}
@@ -9,7 +9,7 @@ use lib.ListN.{length, take}
 use borrow.Author.Tests.{ltb-true, leb-true, eqb-true}
 use Rattle.std.specs.declared.option.Option.{Option}
 use Rattle.std.specs.declared.option.Option.the-variants.{Some, None}
-use Rattle.std.specs.declared.result.Result.the-variants.{Ok, Err}
+use Rattle.std.specs.declared.result.Result.the-variants.{Ok}
 use Rattle.fields.specs.Numbers.{Below}
 use Rattle.linear.specs.Checks.{Check, unless, unless-found, stray}
 use Rattle.linear.specs.Division.{numbers-check}

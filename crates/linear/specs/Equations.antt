@@ -3,7 +3,7 @@ use mathlib.Core.List.{List, [], _∷_}
 use mathlib.Core.Path.{_≡_}
 use Prim.Native.Nat.{ℕ, _+_, _*_, _<_}
 use lib.Dec.{ltb, leb}
-use lib.ListN.{length, take, drop}
+use lib.ListN.{length, getD, take, drop}
 use Rattle.std.specs.declared.result.Result.the-variants.{Ok, Err}
 use Rattle.fields.specs.Arithmetic.{Arithmetic}
 use Rattle.fields.specs.Numbers.{Below, Zeros}
@@ -29,6 +29,14 @@ reduced F t b p = added F t (scaled F (F .opposite b) p)
 -- the numbers u from column c on solve the first n rows, where the columns before c are not looked at
 abbrev pub Solves : Arithmetic → ℕ → ℕ → ℕ → List ℕ → List ℕ → Type 0
 Solves F w c n s u = (i : ℕ) → i < n → dot F (drop c (row w i s)) u ≡ 0
+
+-- whatever solves the rows s′ from column c on solves the rows s
+abbrev pub Keeps : Arithmetic → ℕ → ℕ → ℕ → List ℕ → List ℕ → Type 0
+Keeps F w c n s s′ = (u : List ℕ) → Solves F w c n s′ u → Solves F w c n s u
+
+-- each of the rows s′ is that of s less the multiple of the pivot row by the number in column c
+abbrev pub Cleared : Arithmetic → ℕ → ℕ → ℕ → List ℕ → List ℕ → List ℕ → Type 0
+Cleared F w c n s s′ pivot = (k : ℕ) → k < n → row w k s′ ≡ reduced F (row w k s) (getD (row w k s) c 0) pivot
 
 -- the first n rows have numbers of the field
 abbrev pub Grid : Arithmetic → ℕ → ℕ → List ℕ → Type 0

@@ -1,6 +1,5 @@
 // Division of polynomials over any field, with a remainder.
 ghost use mathlib.Core.Path.{_≡_};
-ghost use Prim.Native.Nat.{ℕ};
 ghost use lib.ListN.{length};
 ghost use Rattle.fields.specs.Numbers.{Below};
 ghost use Rattle.linear.specs.Division.{Highest, Leads, Divided, Answered, numbers-check, divide-check};

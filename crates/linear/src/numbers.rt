@@ -1,6 +1,5 @@
 // Searches in lists of numbers.
 ghost use mathlib.Core.Path.{_≡_};
-ghost use Prim.Native.Nat.{ℕ};
 ghost use Rattle.linear.specs.Checks.{stray};
 
 // The first place with a number that is not below `order`.

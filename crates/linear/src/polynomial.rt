@@ -1,6 +1,5 @@
 // The value of a polynomial over any field, and what holds of all polynomials.
 ghost use mathlib.Core.Path.{_≡_};
-ghost use Prim.Native.Nat.{ℕ};
 ghost use Rattle.linear.specs.Laws.{Constant-at-zero, Root-bound, Words-apart};
 ghost use Rattle.linear.specs.Operations.{operations};
 ghost use Rattle.linear.specs.Polynomials.{value};

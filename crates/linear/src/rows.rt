@@ -1,6 +1,5 @@
 // Rows of numbers over any field: a row's multiple, a row less a multiple of another, and the sum of the products of two rows.
 ghost use mathlib.Core.Path.{_≡_};
-ghost use Prim.Native.Nat.{ℕ};
 ghost use lib.ListN.{length};
 ghost use Rattle.linear.specs.Equations.{dot, reduced};
 ghost use Rattle.linear.specs.Operations.{operations};

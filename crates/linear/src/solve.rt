@@ -1,12 +1,11 @@
 // Homogeneous linear equations over any field, by elimination.
 ghost use mathlib.Core.Bool.{true, false};
-ghost use mathlib.Core.List.{List};
 ghost use mathlib.Core.Logic.{_≢_};
 ghost use mathlib.Core.Path.{_≡_};
 ghost use Prim.Native.Nat.{ℕ, _+_, _*_, _<_, _≤_};
 ghost use lib.ListN.{length, getD, drop};
 ghost use Rattle.fields.specs.Numbers.{Below, Zeros};
-ghost use Rattle.linear.specs.Equations.{row, reduced, Solves, Grid, Solution, Solved, solve-check};
+ghost use Rattle.linear.specs.Equations.{row, Solves, Keeps, Cleared, Grid, Solution, Solved, solve-check};
 ghost use Rattle.linear.specs.Operations.{operations};
 use crate::fault::SolveFault;
 use crate::numbers::find_stray;
@@ -91,7 +90,8 @@ fn eliminate<F: Field>(
         return;
     }
     let (first, rest) = rows.split_at_mut(w);
-    let Some(inverse) = f.inverse(first[c]) else {
+    let pivot = first[c];
+    let Some(inverse) = f.inverse(pivot) else {
         unreachable()
     };
     scale_row(f, first, inverse);
@@ -117,7 +117,7 @@ fn place_pivot<F: Field>(
     ensures some { λ r. ⌜ (r ≡ true → 0 < count) ⌝ }
     ensures lead { λ r. ⌜ (r ≡ true → getD (now (rows .exit)) c 0 ≢ 0) ⌝ }
     ensures grid { λ r. ⌜ (r ≡ true → Grid (operations F·Field (now (f .entry))) w count (now (rows .exit))) ⌝ }
-    ensures keeps { λ r. ⌜ (r ≡ true → (u : List ℕ) → Solves (operations F·Field (now (f .entry))) w c count (now (rows .exit)) u → Solves (operations F·Field (now (f .entry))) w c count (now (rows .entry)) u) ⌝ }
+    ensures keeps { λ r. ⌜ (r ≡ true → Keeps (operations F·Field (now (f .entry))) w c count (now (rows .entry)) (now (rows .exit))) ⌝ }
 {
     let p = find_pivot(rows, w, count, c);
     if p == count {
@@ -151,7 +151,7 @@ fn clear_column<F: Field>(f: &F, rows: &mut [u16], w: usize, count: usize, c: us
     requires size { ⌜ count * w ≡ length (now rows) ⌝ }
     requires column { ⌜ c < w ⌝ }
     requires wide { ⌜ length (now pivot) ≡ w ⌝ }
-    ensures { λ _. ⌜ ((k : ℕ) → k < count → row w k (now (rows .exit)) ≡ reduced (operations F·Field (now (f .entry))) (row w k (now (rows .entry))) (getD (row w k (now (rows .entry))) c 0) (now (pivot .entry))) ⌝ }
+    ensures { λ _. ⌜ Cleared (operations F·Field (now (f .entry))) w c count (now (rows .entry)) (now (rows .exit)) (now (pivot .entry)) ⌝ }
 {
     for k in 0..count {
         let from = k * w;

@@ -1,8 +1,8 @@
-use mathlib.Core.Path.{refl, sym, ap, ap₂, _∙_, _≡_}
+use mathlib.Core.Path.{sym, ap, _∙_, _≡_}
 use native.Mathlib.Omega.{arith}
-use Prim.Native.Nat.{_≤_, _<_, _-_, _+_}
+use Prim.Native.Nat.{_-_}
 use lib.ListN.{drop, length, getD}
-use Rattle.std.proofs.shelf.Lists.{drop-all, drop-more}
+use Rattle.std.proofs.shelf.Lists.{drop-all}
 use Rattle.linear.specs.Operations.{operations}
 use Rattle.linear.specs.Polynomials.{value}
 use Rattle.linear.proofs.Lists.{value-more}

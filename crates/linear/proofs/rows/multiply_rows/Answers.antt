@@ -1,7 +1,7 @@
-use mathlib.Core.Path.{refl, sym, ap, ap₂, _∙_, _≡_}
+use mathlib.Core.Path.{sym, ap, _∙_}
 use native.Mathlib.Omega.{arith}
-use Prim.Native.Nat.{_≤_, _<_, _-_, _+_}
-use lib.ListN.{drop, length, getD}
+use Prim.Native.Nat.{_-_}
+use lib.ListN.{drop, length}
 use Rattle.std.proofs.shelf.Lists.{drop-all}
 use Rattle.linear.specs.Operations.{operations}
 use Rattle.linear.specs.Equations.{dot}

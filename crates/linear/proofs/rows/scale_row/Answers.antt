@@ -1,6 +1,4 @@
-use mathlib.Core.Path.{sym, ap, ap₂, _∙_, _≡_}
-use mathlib.Core.List.{map, _++_, append-nil}
-use lib.ListN.{take, drop, set, length, getD}
+use mathlib.Core.List.{append-nil}
 use borrow.Author.Needs.{needs}
 use Rattle.std.proofs.shelf.Lists.{take-all, drop-all}
 use Rattle.std.proofs.shelf.Edits.{map-over-more}

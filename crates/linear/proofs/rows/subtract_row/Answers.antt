@@ -1,13 +1,10 @@
 use mathlib.Core.Path.{refl, sym, ap, ap₂, _∙_, _≡_, subst}
-use mathlib.Core.List.{List}
-use Prim.Native.Nat.{ℕ, _<_, _≤_, _+_}
+use Prim.Native.Nat.{ℕ, _<_, _+_}
 use native.Mathlib.Omega.{arith}
 use lib.ListN.{set, length, getD}
-use borrow.Author.Needs.{needs}
 use Rattle.std.proofs.shelf.Lists.{ext-getD, getD-set-other}
 use Rattle.std.proofs.shelf.Edits.{fill-by-more}
 use Rattle.linear.specs.Operations.{operations}
-use Rattle.linear.specs.Polynomials.{added, scaled}
 use Rattle.linear.proofs.Lists.{getD-added, length-added}
 use Rattle.linear.proofs.rows.subtract_row.Needs as need
 

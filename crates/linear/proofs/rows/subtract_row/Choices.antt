@@ -1,6 +1,6 @@
 use mathlib.Core.Path.{_≡_}
 use Prim.Native.Nat.{ℕ, _<_, _≤_}
-use lib.ListN.{getD, length}
+use lib.ListN.{getD}
 use Rattle.linear.specs.Operations.{operations}
 use Rattle.linear.proofs.rows.subtract_row.Given as given
 

@@ -1,22 +1,20 @@
-use mathlib.Core.Path.{refl, sym, ap, ap₂, _∙_, _≡_, subst}
-use mathlib.Core.Logic.{_≢_}
-use mathlib.Core.List.{List, _∷_, _++_}
-use mathlib.Core.Bool.{true, false}
-use Prim.Native.Nat.{ℕ, suc, _≤_, _<_, _-_, _+_, _*_}
+use mathlib.Core.Path.{sym, ap, ap₂, _∙_, _≡_, subst}
+use mathlib.Core.List.{_∷_, _++_}
+use mathlib.Core.Bool.{true}
+use Prim.Native.Nat.{ℕ, suc, _<_, _-_, _+_, _*_}
 use native.Mathlib.Nat.{suc-mul}
 use native.Mathlib.Omega.{arith}
-use lib.ListN.{length, getD, take, drop, set, replicate, length-set}
-use borrow.Author.Needs.{needs}
+use lib.ListN.{length, getD, take, drop, set, replicate}
 use Rattle.std.proofs.shelf.Lists.{drop-set, drop-replicate, take-all, length-drop, getD-append-left}
 use Rattle.std.proofs.shelf.Elements.{all-getD, all-weaker}
 use Rattle.fields.specs.Numbers.{Zeros, Below}
-use Rattle.fields.proofs.Total.{TotalLaws, inverse-some, inverse-none}
+use Rattle.fields.proofs.Total.{TotalLaws, inverse-none}
 use Rattle.linear.specs.Operations.{operations}
 use Rattle.linear.proofs.Lawful.{lawful}
 use Rattle.linear.specs.Polynomials.{scaled}
-use Rattle.linear.specs.Equations.{row, dot, reduced, Grid, Solves}
+use Rattle.linear.specs.Equations.{row, dot, Solves}
 use Rattle.fields.proofs.Algebra.{one-below, zero-below}
-use Rattle.linear.proofs.Grid.{row-ends, getD-row, length-row, row-zero, row-first, row-rest}
+use Rattle.linear.proofs.Grid.{row-ends, length-row, row-first}
 use Rattle.linear.proofs.Kernel.{dot-zeros}
 use Rattle.linear.proofs.Elimination.{Column, column-made, under-zero, zeros-replicate, rest-grid, step-solves}
 use Rattle.linear.proofs.solve.+eliminate.Needs as need

@@ -1,6 +1,6 @@
-use mathlib.Core.Path.{refl, sym, ap, _∙_, _≡_}
+use mathlib.Core.Path.{sym, ap, _∙_, _≡_}
 use mathlib.Core.List.{List}
-use Prim.Native.Nat.{ℕ, _≤_, _<_, _-_, _+_, _*_}
+use Prim.Native.Nat.{ℕ, _≤_, _-_, _+_, _*_}
 use native.Mathlib.Omega.{arith}
 use lib.ListN.{length, getD, take, drop}
 use Rattle.linear.specs.Operations.{operations}

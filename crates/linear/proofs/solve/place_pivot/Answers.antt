@@ -1,18 +1,15 @@
-use mathlib.Core.Path.{refl, sym, ap, ap₂, _∙_, _≡_, subst}
+use mathlib.Core.Path.{sym, ap, ap₂, _∙_, _≡_, subst}
 use mathlib.Core.Logic.{_≢_}
 use mathlib.Core.List.{List, _++_}
-use mathlib.Core.Bool.{true, false}
-use Prim.Native.Nat.{ℕ, suc, _≤_, _<_, _-_, _+_, _*_}
+use Prim.Native.Nat.{ℕ, suc, _<_, _-_, _+_, _*_}
 use native.Mathlib.Omega.{arith}
-use lib.ListN.{length, getD, take, drop}
-use borrow.Author.Needs.{needs}
+use lib.ListN.{getD, take, drop}
 use borrow.Author.Tests.{clash}
-use Rattle.fields.specs.Numbers.{Zeros, Below}
-use Rattle.fields.proofs.Total.{TotalLaws, inverse-some, inverse-none}
+use Rattle.fields.proofs.Total.{TotalLaws}
 use Rattle.linear.specs.Operations.{operations}
 use Rattle.linear.proofs.Lawful.{lawful}
 use Rattle.linear.specs.Equations.{row, reduced, Grid, Solves}
-use Rattle.linear.proofs.Grid.{row-ends, getD-row, length-row, row-zero}
+use Rattle.linear.proofs.Grid.{row-ends, getD-row, row-zero}
 use Rattle.linear.proofs.Kernel.{raised-lead, raised-grid, raised-keeps}
 use Rattle.linear.proofs.solve.place_pivot.Needs as need
 
