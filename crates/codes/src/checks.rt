@@ -1,6 +1,5 @@
 // The checks and counts that every code shares.
 ghost use mathlib.Core.Path.{_≡_};
-ghost use Prim.Native.Nat.{ℕ};
 ghost use Rattle.codes.specs.Checks.{number-check, unmarked-check};
 ghost use Rattle.codes.specs.Words.{missing};
 use crate::fault::CodeFault;
