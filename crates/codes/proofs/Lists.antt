@@ -3,8 +3,8 @@ use mathlib.Core.List.{List, [], _∷_, _++_}
 use mathlib.Core.Path.{_≡_, refl, sym, ap, _∙_}
 use Prim.Native.Nat.{ℕ, zero, suc, _+_, _<_, _≤_}
 use native.Mathlib.Omega.{arith}
-use lib.ListN.{length, getD, take, replicate, length-append, length-replicate, length-take}
-use Rattle.std.proofs.shelf.Lists.{ext-getD, getD-take, take-at, length-take-le}
+use lib.ListN.{length, getD, take, replicate, length-append, length-replicate}
+use Rattle.std.proofs.shelf.Lists.{ext-getD, getD-take, length-take-le}
 use Rattle.codes.specs.Lists.{counting, filled}
 
 pub length-counting : (i n : ℕ) → length (counting i n) ≡ n

@@ -1,7 +1,7 @@
 -- What scaling does to words and reach.
 use mathlib.Core.Bool.{_&&_}
 use mathlib.Core.List.{List, [], _∷_}
-use mathlib.Core.Path.{_≡_, refl, sym, ap, ap₂, subst, _∙_}
+use mathlib.Core.Path.{_≡_, refl, sym, ap₂, subst, _∙_}
 use Prim.Native.Nat.{ℕ, _+_, _<_, _≤_}
 use native.Mathlib.Omega.{arith}
 use lib.Dec.{eqb, ltb, leb}
@@ -15,9 +15,9 @@ use Rattle.fields.proofs.Total.{total-laws, counted-same}
 use Rattle.fields.specs.Arithmetic.{Arithmetic, total}
 use Rattle.fields.specs.Laws.{Sizes, Sums, Products, Inverses, Laws}
 use Rattle.fields.specs.Numbers.{Below}
-use Rattle.codes.proofs.Passed.{Passed, passed, passes, Issuable, issuable, issues, decided-ok, decided-from}
+use Rattle.codes.proofs.Passed.{passes, decided-ok, decided-from}
 use Rattle.codes.specs.Checks.{Check, unless, andThen, unmarked-check}
-use Rattle.codes.specs.Meaning.{Meaning, Message, Reached, Sound, issue-check, decode-check, Solved, Found, OutOfReach, Decoded}
+use Rattle.codes.specs.Meaning.{Meaning, Message, Reached, Sound, decode-check, Solved, Decoded}
 use Rattle.codes.specs.Words.{wrong}
 use Rattle.codes.specs.declared.fault.CodeFault.{CodeFault}
 use Rattle.codes.specs.declared.fault.FitnessFault.{FitnessFault}
@@ -65,6 +65,7 @@ pub record Scaling (F : Arithmetic) (xs : List ℕ) (M : Meaning) : Type 0 where
   pub order : F .order ≡ M .order
   pub units : Units (M .order) xs
 
+-- a fit scaled code passed all its checks
 pub scaling : (F : Arithmetic) (xs : List ℕ) (M : Meaning) → scaled F xs M .fitness ≡ Ok tt → Scaling F xs M
 scaling F xs M e =
     let p = split-fit (M .fitness) (length xs) (M .long) (F .order) (M .order) xs e in
@@ -103,6 +104,7 @@ module _ (F : Arithmetic) (L : Laws F) (xs : List ℕ) (M : Meaning) (s : Sound 
     abbrev qs : List ℕ
     qs = quotients (total F) xs rs ms
 
+    -- a message is as wrong above as its quotients are below
     same-wrong : (m : List ℕ) → Message M m → wrong rs ms (products (total F) xs (M .word m)) ≡ wrong qs ms (M .word m)
     same-wrong m h = wrong-quotients (total F) (total-laws F L) 0 xs rs ms (M .word m) units (subst (λ (q : ℕ). unmarked-check q 0 rs ms ≡ Ok tt) (sym (p .order)) good)
         (subst (λ (q : ℕ). Below q (M .word m)) (sym (p .order)) (s .word-below m h)) (p .counted ∙ sym em) (er ∙ sym em)
@@ -129,6 +131,7 @@ module _ (F : Arithmetic) (L : Laws F) (xs : List ℕ) (M : Meaning) (s : Sound 
       numbers = subst (λ (q : ℕ). unmarked-check q 0 qs ms ≡ Ok tt) (p .order) (quotients-pass (total F) (total-laws F L) 0 xs rs ms);
     }
 
+    -- what the code below decodes from the quotients is what the scaled code decodes
     pub decoded-up : (old new scr scr′ : List ℕ) (r : Result ℕ CodeFault) → length old ≡ M .dimension → need ≤ length scr → decode-check (scaled F xs M) need rs ms (length old) (length scr) ≡ Ok tt
         → Decoded M need qs ms old new scr scr′ r → Decoded (scaled F xs M) need rs ms old new scr scr′ r
     decoded-up old new scr scr′ r a l ok h =
@@ -142,6 +145,7 @@ entry F xs ys j u b l h =
     getD-products (total F) xs ys j l h
     ∙ ap₂ (F .times) (counted-same (F .order) (getD xs j 0) (all-getD (λ x. (1 ≤ x) × (x < F .order)) xs j 0 (omega arith) u .1)) (counted-same (F .order) (getD ys j 0) (all-getD (λ y. y < F .order) ys j 0 h b))
 
+-- the code's meaning in plain words
 pub scales : (F : Arithmetic) → Laws F → (xs : List ℕ) (B : Meaning) → (B .fitness ≡ Ok tt → Sound B) → Scales F xs B (scaled F xs B)
 scales F L xs B law = record {
   fit = (

@@ -3,7 +3,7 @@ use mathlib.Core.Bool.{Bool, true, false}
 use mathlib.Core.List.{List, [], _∷_, _++_, append-assoc}
 use mathlib.Core.Logic.{_⊎_, inl, inr}
 use mathlib.Core.Path.{_≡_, refl, sym, ap, subst, _∙_}
-use Prim.Native.Nat.{ℕ, zero, suc, _+_, _-_, _<_, _≤_}
+use Prim.Native.Nat.{ℕ, zero, suc, _+_, _-_, _<_}
 use native.Mathlib.Omega.{arith}
 use lib.Dec.{eqb, ltb}
 use lib.ListN.{length, getD, take, drop, replicate, length-append, length-replicate, take-append-drop, length-drop, length-take, replicate-append-replicate}
@@ -42,7 +42,7 @@ passed-zeros (x ∷ xs) e =
     cc
 
 -- the check has one fault only
-pub zeros-fault : (xs : List ℕ) (f : CodeFault) → zero-check xs ≡ Err f → f ≡ Reach
+zeros-fault : (xs : List ℕ) (f : CodeFault) → zero-check xs ≡ Err f → f ≡ Reach
 zeros-fault [] f e = let z : _≡_ {A = ℕ} 0 1 = cc in absurd (omega arith)
 zeros-fault (x ∷ xs) f e =
     let i = zeros-fault xs f in
@@ -141,34 +141,36 @@ module _ (z : ℕ) (M : Meaning) (law : M .fitness ≡ Ok tt → Sound M) (need 
         numbers = all-passed .numbers;
       }) done
 
-  pub rest-kept : drop need scr′ ≡ drop need scr
-  rest-kept = below .rest
-
   -- the code below finds no message
-  pub none-below : (f : CodeFault) (kept : List ℕ) → r ≡ Err f → OutOfReach (trimmed z M) rs ms kept kept f
+  pub none-below : (f : CodeFault) (kept : List ℕ) → r ≡ Err f → Accepted (trimmed z M) need rs ms kept kept scr scr′ (Err f)
   none-below f kept e =
       let s : OutOfReach M rs ms old new f = subst (Solved M rs ms old new) e (below .solved) in
-      record { fault = s .fault; unchanged = refl; none = λ m h. s .none (m ++ replicate z 0) (wider z M (law (fits .0)) (fits .1) rs ms m h) }
+      record {
+        solved = record { fault = s .fault; unchanged = refl; none = λ m h. s .none (m ++ replicate z 0) (wider z M (law (fits .0)) (fits .1) rs ms m h) };
+        rest = below .rest;
+      }
 
   -- the message of the code below ends in zeros
-  pub zeros-below : (e : ℕ) → r ≡ Ok e → zero-check (drop room new) ≡ Ok tt → Found (trimmed z M) rs ms (take room new) e
-  zeros-below e i h =
+  pub zeros-below : (e : ℕ) (kept : List ℕ) → r ≡ Ok e → zero-check (drop room new) ≡ Ok tt → Accepted (trimmed z M) need rs ms kept (take room new) scr scr′ (Ok e)
+  zeros-below e kept i h =
       let s : Found M rs ms new e = subst (Solved M rs ms old new) i (below .solved) in
       let a = all-passed .message in
       let h′ : zero-check (drop (M .dimension - z) new) ≡ Ok tt = subst (λ (k : ℕ). zero-check (drop k new) ≡ Ok tt) a h in
       let t = narrower z M (law (fits .0)) (fits .1) rs ms new h′ (s .reached) in
-      rw a (record { reached = t .0; counted = rw (t .1) (s .counted) })
+      record { solved = rw a (record { reached = t .0; counted = rw (t .1) (s .counted) }); rest = below .rest }
 
   -- the message of the code below does not end in zeros
-  pub others-below : (e : ℕ) (f : CodeFault) (kept : List ℕ) → r ≡ Ok e → zero-check (drop room new) ≡ Err f → OutOfReach (trimmed z M) rs ms kept kept f
+  pub others-below : (e : ℕ) (f : CodeFault) (kept : List ℕ) → r ≡ Ok e → zero-check (drop room new) ≡ Err f → Accepted (trimmed z M) need rs ms kept kept scr scr′ (Err f)
   others-below e f kept i h =
       let s : Found M rs ms new e = subst (Solved M rs ms old new) i (below .solved) in
-      let a = all-passed .message in
-      let h′ : zero-check (drop (M .dimension - z) new) ≡ Err f = subst (λ (k : ℕ). zero-check (drop k new) ≡ Err f) a h in
+      let h′ : zero-check (drop (M .dimension - z) new) ≡ Err f = subst (λ (k : ℕ). zero-check (drop k new) ≡ Err f) (all-passed .message) h in
       record {
-        fault = zeros-fault (drop room new) f h;
-        unchanged = refl;
-        none = none-left z M (law (fits .0)) (fits .1) rs ms new (all-passed .received) (all-passed .marks) (λ g. let z : _≡_ {A = ℕ} 0 1 = cc in omega arith) (s .reached);
+        solved = record {
+          fault = zeros-fault (drop room new) f h;
+          unchanged = refl;
+          none = none-left z M (law (fits .0)) (fits .1) rs ms new (all-passed .received) (all-passed .marks) (λ g. let z : _≡_ {A = ℕ} 0 1 = cc in omega arith) (s .reached);
+        };
+        rest = below .rest;
       }
 
 -- the message with the zeros is issued by the code below, and stands at the front of the array
@@ -192,6 +194,7 @@ issue-below z M law m room e =
           ∙ take-at (m ++ replicate z 0) (replicate (128 - z) 0) K whole,
     )
 
+-- the code's meaning in plain words
 pub trims : (z : ℕ) (B : Meaning) → (B .fitness ≡ Ok tt → Sound B) → Trims z B (trimmed z B)
 trims z B law = record {
   fit = (fit-below z B, λ h. join-fit (B .fitness) (B .dimension) z (h .0) (h .1));

@@ -7,7 +7,7 @@ use denote.RattleType.{RattleType}
 use lib.ListN.{length, getD, replicate}
 use mir.Syntax.{given}
 use Rattle.std.specs.declared.result.Result.the-variants.{Ok}
-use Rattle.fields.specs.Arithmetic.{Arithmetic, total}
+use Rattle.fields.specs.Arithmetic.{Arithmetic}
 use Rattle.fields.specs.declared.field.Field as field
 use Rattle.codes.specs.Meaning.{Meaning, Message, Sound}
 use Rattle.codes.specs.declared.interface.Code as code

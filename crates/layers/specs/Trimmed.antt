@@ -3,7 +3,7 @@ use mathlib.Core.List.{List, [], _∷_, _++_}
 use Prim.Native.Nat.{ℕ, _-_}
 use lib.Dec.{eqb, ltb}
 use lib.ListN.{replicate}
-use Rattle.std.specs.declared.result.Result.the-variants.{Ok, Err}
+use Rattle.std.specs.declared.result.Result.the-variants.{Ok}
 use Rattle.codes.specs.Checks.{Check, unless, andThen}
 use Rattle.codes.specs.Meaning.{Meaning}
 use Rattle.codes.specs.declared.fault.CodeFault.{CodeFault}

@@ -1,6 +1,4 @@
 // A layer over any code: each number of a word is multiplied by a multiplier of its own.
-ghost use mathlib.Core.Path.{_≡_};
-ghost use Prim.Native.Nat.{ℕ};
 ghost use Rattle.layers.specs.Scaled.{scaled};
 use crate::scaling;
 use codes::fault::CodeFault;

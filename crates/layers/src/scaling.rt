@@ -1,6 +1,6 @@
 // Words times multipliers, and back.
 ghost use mathlib.Core.Path.{_≡_};
-ghost use Prim.Native.Nat.{ℕ, _<_, _≤_};
+ghost use Prim.Native.Nat.{_<_, _≤_};
 ghost use lib.ListN.{length, take};
 ghost use Rattle.fields.specs.Arithmetic.{total};
 ghost use Rattle.layers.specs.Scaled.{multiplier-check, products, quotients, Units};

@@ -1,6 +1,5 @@
 // A layer over any code: the last numbers of a message are 0, and are left out.
 ghost use mathlib.Core.Path.{_≡_};
-ghost use Prim.Native.Nat.{ℕ};
 ghost use lib.ListN.{length, drop};
 ghost use Rattle.std.specs.declared.result.Result.the-variants.{Ok};
 ghost use Rattle.codes.specs.Meaning.{decode-check, Solved};

@@ -14,6 +14,7 @@ use Rattle.codes.specs.Words.{wrong, missing}
 use Rattle.repetition.specs.Made.{Repeats}
 use Rattle.repetition.specs.Repeats.{Near, Nearby, repetition}
 
+-- two different numbers, repeated, differ in every place
 differ-repeat : (n x y : ℕ) → (x ≡ y → ⊥) → differ (replicate n x) (replicate n y) ≡ n
 differ-repeat zero x y ne = refl
 differ-repeat (suc n) x y ne = let i = differ-repeat n x y ne in let e : cond {A = ℕ} (eqb x y) 0 1 ≡ 1 = grind (arith, tells) in omega arith
@@ -31,6 +32,7 @@ one-number [] e = absurd (omega arith)
 one-number (x ∷ []) e = refl
 one-number (x ∷ y ∷ ys) e = absurd (omega arith)
 
+-- a fit repetition code keeps what a fit code promises
 pub repetition-sound : (q n : ℕ) → repetition q n .fitness ≡ Ok tt → Sound (repetition q n)
 repetition-sound q n e = record {
   order-low = grind (arith, tells);
@@ -46,6 +48,7 @@ repetition-sound q n e = record {
   apart = λ m m′ h h′ ne. (let d = differ-repeat n (getD m 0 0) (getD m′ 0 0) (λ e. ne (one-number m (h .long) ∙ ap (λ (x : ℕ). x ∷ []) e ∙ sym (one-number m′ (h′ .long)))) in omega arith);
 }
 
+-- a number that was received at no unmarked place is wrong at all of them
 absent : (rs ms : List ℕ) (x : ℕ) → length rs ≡ length ms → ((j : ℕ) → j < length rs → getD ms j 0 ≡ 0 → getD rs j 0 ≡ x → ⊥) → wrong rs ms (replicate (length rs) x) + missing ms ≡ length rs
 absent [] [] x e h = omega arith
 absent [] (m ∷ ms) x e h = absurd (omega arith)
@@ -59,6 +62,7 @@ absent (r ∷ rs) (m ∷ ms) x e h =
     one : (m r x : ℕ) → (m ≡ 0 → r ≡ x → ⊥) → cond {A = ℕ} (eqb m 0) (cond (eqb r x) 0 1) 0 + cond (eqb m 0) 0 1 ≡ 1
     one m r x here = grind (arith, tells)
 
+-- where no received number is near, none is
 pub none-near : (rs ms : List ℕ) → length rs ≡ length ms → ((j : ℕ) → j < length rs → getD ms j 0 ≡ 0 → Near rs ms (getD rs j 0) → ⊥) → (x : ℕ) → Near rs ms x → ⊥
 none-near rs ms e h x near =
     let a = absent rs ms x e (λ j l m v. h j l m (subst (Near rs ms) (sym v) near)) in omega arith
@@ -68,6 +72,7 @@ written-one [] x e = absurd (omega arith)
 written-one (y ∷ []) x e = refl
 written-one (y ∷ z ∷ zs) x e = absurd (omega arith)
 
+-- a near number, written into the buffer, is the message within reach
 pub solved-one : (q n : ℕ) (rs ms old : List ℕ) (found : ℕ × ℕ) → length rs ≡ n → length old ≡ 1 → Nearby q rs ms found → Solved (repetition q n) rs ms old (set old 0 (found .0)) (Ok (found .1))
 solved-one q n rs ms old found l o h =
     let x = found .0 in
@@ -79,6 +84,7 @@ pub missing-few : (ms : List ℕ) → missing ms ≤ length ms
 missing-few [] = omega arith
 missing-few (m ∷ ms) = let i = missing-few ms in let o : cond {A = ℕ} (eqb m 0) 0 1 ≤ 1 = grind (arith, tells) in omega arith
 
+-- the code's meaning in plain words
 pub repeats : (q n : ℕ) → Repeats q n (repetition q n)
 repeats q n = record {
   fit = (λ e. (grind (arith, tells), grind (arith, tells), grind (arith, tells), grind (arith, tells)), λ h. fits (h .0) (h .1) (h .2) (h .3));

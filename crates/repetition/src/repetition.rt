@@ -1,6 +1,4 @@
 // The repetition code as an issuer and as a code.
-ghost use mathlib.Core.Path.{_≡_};
-ghost use Prim.Native.Nat.{ℕ};
 ghost use Rattle.repetition.specs.Repeats.{repetition};
 use crate::majority::majority;
 use codes::fault::CodeFault;

@@ -1,6 +1,5 @@
 // Making the list of the numbers below a bound.
 ghost use mathlib.Core.Path.{_≡_};
-ghost use Prim.Native.Nat.{ℕ};
 ghost use Rattle.codes.specs.Lists.{counting};
 ghost use Rattle.codes.specs.Made.{listed-by};
 use super::Upto;

@@ -1,6 +1,5 @@
 // Making a scaled code.
 ghost use mathlib.Core.Path.{_≡_};
-ghost use Prim.Native.Nat.{ℕ};
 ghost use Rattle.layers.specs.Made.{scaled-meant, scaled-need, Scales};
 ghost use Rattle.layers.specs.Scaled.{scaled};
 use super::Scaled;

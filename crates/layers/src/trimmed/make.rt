@@ -1,6 +1,5 @@
 // Making a trimmed code.
 ghost use mathlib.Core.Path.{_≡_};
-ghost use Prim.Native.Nat.{ℕ};
 ghost use Rattle.layers.specs.Made.{trimmed-meant, trimmed-need, Trims};
 ghost use Rattle.layers.specs.Trimmed.{trimmed};
 use super::Trimmed;

@@ -1,6 +1,5 @@
 // Making a repetition code.
 ghost use mathlib.Core.Path.{_≡_};
-ghost use Prim.Native.Nat.{ℕ};
 ghost use Rattle.repetition.specs.Made.{meant, needed, Repeats};
 ghost use Rattle.repetition.specs.Repeats.{repetition};
 use super::Repetition;

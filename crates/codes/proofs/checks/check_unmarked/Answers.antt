@@ -1,9 +1,8 @@
 use mathlib.Core.Path.{sym, _∙_}
 use native.Mathlib.Omega.{arith}
-use Prim.Native.Nat.{_<_, _≤_, min}
-use lib.ListN.{length, drop}
+use Prim.Native.Nat.{_<_}
+use lib.ListN.{length}
 use Rattle.std.proofs.shelf.Ways.{tells}
-use Rattle.codes.specs.Checks.{unmarked-check}
 use Rattle.codes.proofs.Steps.{unmarked-more, unmarked-all}
 use Rattle.codes.proofs.checks.check_unmarked.Needs as need
 use Rattle.codes.proofs.checks.check_unmarked.Needs.{else-marks-i-eq0·by·then-marks-i-eq0·else-from-order, else-marks-i-eq0·by·else-marks-i-eq0}
