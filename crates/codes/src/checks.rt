@@ -1,11 +1,6 @@
 // The checks and counts that every code shares.
 ghost use mathlib.Core.Path.{_≡_};
-<<<<<<< HEAD
-ghost use Prim.Native.Nat.{ℕ};
 ghost use Rattle.codes.specs.Checks.{number-check, unmarked-check, zero-check};
-=======
-ghost use Rattle.codes.specs.Checks.{number-check, unmarked-check};
->>>>>>> 347a20e82120420a4da8f69394b9e7effabb8389
 ghost use Rattle.codes.specs.Words.{missing};
 use crate::fault::CodeFault;
 

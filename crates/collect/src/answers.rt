@@ -1,13 +1,13 @@
 // The answers: a collector of the code that the settings put together, and what each call gives.
+use crate::lines::Line;
+use crate::settings::CodeChoice;
+use crate::settings::FieldChoice;
+use crate::settings::Settings;
 use carrier::collector::Collector;
 use carrier::fault::CollectorFault;
 use codes::interface::Code;
 use codes::interface::Issuer;
 use codes::numbers::SliceNumbers;
-use crate::lines::Line;
-use crate::settings::CodeChoice;
-use crate::settings::FieldChoice;
-use crate::settings::Settings;
 use evaluation::Evaluation;
 use evaluation::EvaluationCode;
 use evaluation::EvaluationIssuer;
@@ -41,32 +41,65 @@ pub fn answer_all(rt: &LibcRuntime, lines: &[Line]) -> io::Result<()> {
 }
 
 // Goes on with the code that is set.
-fn with_field<F: Field + Copy>(rt: &LibcRuntime, field: F, settings: Settings<'_>, lines: &[Line]) -> io::Result<()> {
+fn with_field<F: Field + Copy>(
+    rt: &LibcRuntime,
+    field: F,
+    settings: Settings<'_>,
+    lines: &[Line],
+) -> io::Result<()> {
     match settings.code {
         Some(CodeChoice::Evaluation(numbers)) => match numbers {
             [k, points @ ..] => {
                 let n = u16::try_from(points.len()).unwrap_or(u16::MAX);
-                with_code(rt, field, Evaluation::new(field, n, *k, points), settings, lines)
+                with_code(
+                    rt,
+                    field,
+                    Evaluation::new(field, n, *k, points),
+                    settings,
+                    lines,
+                )
             }
             [] => println!(rt, "no code is set"),
         },
         Some(CodeChoice::Repetition(length)) => {
-            with_code(rt, field, Repetition::new(field.order(), length as usize), settings, lines)
+            with_code(
+                rt,
+                field,
+                Repetition::new(field.order(), length as usize),
+                settings,
+                lines,
+            )
         }
         None => println!(rt, "no code is set"),
     }
 }
 
 // Goes on with the multipliers, if any are set.
-fn with_code<F: Field + Copy, C: Code + Drop>(rt: &LibcRuntime, field: F, code: C, settings: Settings<'_>, lines: &[Line]) -> io::Result<()> {
+fn with_code<F: Field + Copy, C: Code + Drop>(
+    rt: &LibcRuntime,
+    field: F,
+    code: C,
+    settings: Settings<'_>,
+    lines: &[Line],
+) -> io::Result<()> {
     match settings.multipliers {
-        Some(multipliers) => with_scaled(rt, Scaled::new(field, multipliers, code), settings, lines),
+        Some(multipliers) => with_scaled(
+            rt,
+            Scaled::new(field, multipliers, code),
+            settings,
+            lines,
+        ),
         None => with_scaled(rt, code, settings, lines),
     }
 }
 
 // Goes on with what is trimmed, if anything is.
-fn with_scaled<C: Code + Drop>(rt: &LibcRuntime, code: C, settings: Settings<'_>, lines: &[Line]) -> io::Result<()> {
+fn with_scaled<C: Code + Drop>(
+    rt: &LibcRuntime,
+    code: C,
+    settings: Settings<'_>,
+    lines: &[Line],
+) -> io::Result<()> {
     match settings.trimmed {
         Some(count) => with_layers(rt, Trimmed::new(code, count as usize), settings, lines),
         None => with_layers(rt, code, settings, lines),
@@ -74,7 +107,12 @@ fn with_scaled<C: Code + Drop>(rt: &LibcRuntime, code: C, settings: Settings<'_>
 }
 
 // Answers the lines by a collector of the code and the depth that is set.
-fn with_layers<C: Code + Drop>(rt: &LibcRuntime, code: C, settings: Settings<'_>, lines: &[Line]) -> io::Result<()> {
+fn with_layers<C: Code + Drop>(
+    rt: &LibcRuntime,
+    code: C,
+    settings: Settings<'_>,
+    lines: &[Line],
+) -> io::Result<()> {
     let Some(depth) = settings.depth else {
         return println!(rt, "no depth is set");
     };
@@ -113,7 +151,13 @@ fn with_layers<C: Code + Drop>(rt: &LibcRuntime, code: C, settings: Settings<'_>
 
 // Prints a refusal.
 fn print_refusal(rt: &LibcRuntime, fault: CollectorFault) -> io::Result<()> {
-    println!(rt, "refused {} place {} row {}", fault.number(), fault.place(), fault.row())
+    println!(
+        rt,
+        "refused {} place {} row {}",
+        fault.number(),
+        fault.place(),
+        fault.row()
+    )
 }
 
 // Prints the numbers, each after a space, and ends the line.
@@ -135,12 +179,22 @@ fn issue<C: Code>(rt: &LibcRuntime, collector: &Collector<C>, message: &[u16]) -
             print!(rt, "word")?;
             print_numbers(rt, word)
         }
-        Err(fault) => println!(rt, "refused {} place {} row 0", fault.number(), fault.place()),
+        Err(fault) => println!(
+            rt,
+            "refused {} place {} row 0",
+            fault.number(),
+            fault.place()
+        ),
     }
 }
 
 // Delivers a strip: its place and then its numbers.
-fn deliver<C: Code>(rt: &LibcRuntime, collector: &mut Collector<C>, at: usize, numbers: &[u16]) -> io::Result<()> {
+fn deliver<C: Code>(
+    rt: &LibcRuntime,
+    collector: &mut Collector<C>,
+    at: usize,
+    numbers: &[u16],
+) -> io::Result<()> {
     let [place, strip @ ..] = numbers else {
         return println!(rt, "unknown line {at}");
     };

@@ -28,7 +28,13 @@ pub struct Settings<'a> {
 impl<'a> Settings<'a> {
     // The settings of the lines before the first call; of two lines that set one thing the later counts.
     pub fn of(lines: &'a [Line]) -> Settings<'a> {
-        let mut settings = Settings { field: None, code: None, multipliers: None, trimmed: None, depth: None };
+        let mut settings = Settings {
+            field: None,
+            code: None,
+            multipliers: None,
+            trimmed: None,
+            depth: None,
+        };
         for line in lines {
             match line {
                 Line::Issue(_) | Line::Deliver(_) | Line::Strike(_) | Line::Read => return settings,

@@ -8,7 +8,7 @@ use native.Mathlib.Omega.{arith}
 use lib.Dec.{eqb, ltb}
 use lib.ListN.{length, getD, take, drop, replicate, length-append, length-replicate, take-append-drop, length-drop, length-take, replicate-append-replicate}
 use Rattle.std.proofs.shelf.Elements.{all-append, all-take}
-use Rattle.std.proofs.shelf.Lists.{drop-at, take-at, at-drop-more, take-take}
+use Rattle.std.proofs.shelf.Lists.{drop-at, take-at, take-take}
 use Rattle.std.proofs.shelf.Ways.{tells}
 use Rattle.std.specs.declared.result.Result.{Result}
 use Rattle.std.specs.declared.result.Result.the-variants.{Ok, Err}
@@ -23,11 +23,8 @@ use Rattle.codes.specs.declared.fault.CodeFault.the-variants.{Reach}
 use Rattle.codes.specs.declared.fault.FitnessFault.{FitnessFault}
 use Rattle.codes.specs.declared.fault.FitnessFault.the-variants.{Trim}
 use Rattle.layers.specs.Made.{Trims}
-use Rattle.layers.specs.Trimmed.{zero-check, trimmed}
-
--- one step of the check for zeros
-pub zeros-more : (xs : List ℕ) (i : ℕ) → i < length xs → zero-check (drop i xs) ≡ unless (eqb (getD xs i 0) 0) Reach (zero-check (drop (i + 1) xs))
-zeros-more xs i h = at-drop-more zero-check xs i 0 h
+use Rattle.codes.specs.Checks.{zero-check}
+use Rattle.layers.specs.Trimmed.{trimmed}
 
 zeros-pass : (z : ℕ) → zero-check (replicate z 0) ≡ Ok tt
 zeros-pass zero = refl

@@ -1,13 +1,11 @@
 -- What trimming makes of a code's meaning.
-use mathlib.Core.List.{List, [], _∷_, _++_}
+use mathlib.Core.List.{_++_}
 use Prim.Native.Nat.{ℕ, _-_}
-use lib.Dec.{eqb, ltb}
+use lib.Dec.{ltb}
 use lib.ListN.{replicate}
 use Rattle.std.specs.declared.result.Result.the-variants.{Ok}
-use Rattle.codes.specs.Checks.{Check, unless, andThen}
+use Rattle.codes.specs.Checks.{unless, andThen}
 use Rattle.codes.specs.Meaning.{Meaning}
-use Rattle.codes.specs.declared.fault.CodeFault.{CodeFault}
-use Rattle.codes.specs.declared.fault.CodeFault.the-variants.{Reach}
 use Rattle.codes.specs.declared.fault.FitnessFault.the-variants.{Trim}
 
 -- the code below trimmed by z: messages are z numbers shorter, and a message's word is that of the message with z zeros at its end
@@ -20,8 +18,3 @@ trimmed z M = record {
   distance = M .distance;
   word = λ m. M .word (m ++ replicate z 0);
 }
-
--- every number is 0, or there is no message within reach
-abbrev pub zero-check : List ℕ → Check CodeFault
-zero-check [] = Ok tt
-zero-check (x ∷ xs) = unless (eqb x 0) Reach (zero-check xs)

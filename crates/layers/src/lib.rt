@@ -2,7 +2,6 @@
 mod scaled;
 mod scaling;
 mod trimmed;
-mod zeros;
 
 pub use scaled::Scaled;
 pub use scaled::ScaledCode;

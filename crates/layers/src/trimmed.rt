@@ -4,7 +4,7 @@ ghost use lib.ListN.{length, drop};
 ghost use Rattle.std.specs.declared.result.Result.the-variants.{Ok};
 ghost use Rattle.codes.specs.Meaning.{decode-check, Solved};
 ghost use Rattle.layers.specs.Trimmed.{trimmed};
-use crate::zeros::check_zeros;
+use codes::checks::check_zeros;
 use codes::fault::CodeFault;
 use codes::fault::FitnessFault;
 use codes::interface::Code;

@@ -25,7 +25,7 @@ over-distance (trim z) m = refl
 over-distance (scale F xs) m = refl
 
 piled : (m : Meaning) (layers : List Layer) → Keeps m → All-lawful layers → Piled m (pile m layers) layers
-piled m [] keeps laws = record { fit = (λ e. (e, tt), λ p. p .0); keeps = keeps; distance = refl; }
+piled m [] keeps laws = record { fit = (λ e. (e, tt), λ p. p .0); keeps = keeps; distance = refl }
 piled m (layer ∷ layers) keeps laws =
     let here = over-fit layer m (laws .0) keeps in
     let rest = piled (over layer m) layers (over-keeps layer m (laws .0) keeps) (laws .1) in

@@ -35,14 +35,34 @@ fn missing_and_wrong_numbers() -> Result<(), Fail> {
     let mut message = [77u16; 2];
     let mut scratch = [7u16; 49];
     check_eq(code.need(), 48)?;
-    check_eq(code.decode(&received, &[1, 1, 0, 0, 0], &mut message, &mut scratch), Err(CodeFault::Reach))?;
+    check_eq(
+        code.decode(&received, &[1, 1, 0, 0, 0], &mut message, &mut scratch),
+        Err(CodeFault::Reach),
+    )?;
     check_eq(&message, &[77, 77])?;
-    check_eq(code.decode(&received, &[0, 0, 0, 0, 0], &mut message, &mut scratch), Ok(1))?;
+    check_eq(
+        code.decode(&received, &[0, 0, 0, 0, 0], &mut message, &mut scratch),
+        Ok(1),
+    )?;
     check_eq(&message, &[3, 2])?;
-    check_eq(code.decode(&received, &[2, 0, 0, 0, 0], &mut message, &mut scratch), Ok(1))?;
-    check_eq(code.decode(&[999, 999, 999, 2, 0], &[1, 255, 1, 0, 0], &mut message, &mut scratch), Ok(0))?;
+    check_eq(
+        code.decode(&received, &[2, 0, 0, 0, 0], &mut message, &mut scratch),
+        Ok(1),
+    )?;
+    check_eq(
+        code.decode(
+            &[999, 999, 999, 2, 0],
+            &[1, 255, 1, 0, 0],
+            &mut message,
+            &mut scratch,
+        ),
+        Ok(0),
+    )?;
     check_eq(&message, &[3, 2])?;
-    check_eq(code.decode(&received, &[1, 1, 0, 1, 0], &mut message, &mut scratch), Ok(0))?;
+    check_eq(
+        code.decode(&received, &[1, 1, 0, 1, 0], &mut message, &mut scratch),
+        Ok(0),
+    )?;
     check_eq(&message, &[8, 9])?;
     check_eq(scratch[48], 7)
 }
@@ -52,24 +72,50 @@ fn the_first_failing_check() -> Result<(), Fail> {
     let code = Evaluation::new(Prime::new(11)?, 5, 2, Upto::new(5));
     let mut message = [77u16; 2];
     let mut scratch = [7u16; 48];
-    check_eq(code.decode(&[1, 2], &[0; 5], &mut message[0..1], &mut scratch), Err(CodeFault::WordLength))?;
-    check_eq(code.decode(&[1; 5], &[0; 5], &mut message[0..1], &mut scratch[0..9]), Err(CodeFault::MessageLength))?;
-    check_eq(code.decode(&[11; 5], &[0; 5], &mut message, &mut scratch[0..47]), Err(CodeFault::Scratch))?;
-    check_eq(code.decode(&[11, 1, 11, 1, 1], &[9, 0, 0, 0, 0], &mut message, &mut scratch), Err(CodeFault::Number(2)))
+    check_eq(
+        code.decode(&[1, 2], &[0; 5], &mut message[0..1], &mut scratch),
+        Err(CodeFault::WordLength),
+    )?;
+    check_eq(
+        code.decode(&[1; 5], &[0; 5], &mut message[0..1], &mut scratch[0..9]),
+        Err(CodeFault::MessageLength),
+    )?;
+    check_eq(
+        code.decode(&[11; 5], &[0; 5], &mut message, &mut scratch[0..47]),
+        Err(CodeFault::Scratch),
+    )?;
+    check_eq(
+        code.decode(
+            &[11, 1, 11, 1, 1],
+            &[9, 0, 0, 0, 0],
+            &mut message,
+            &mut scratch,
+        ),
+        Err(CodeFault::Number(2)),
+    )
 }
 
 #[test]
 fn repetitions_and_layers() -> Result<(), Fail> {
     let five = Repetition::new(11, 5);
     let mut one = [77u16; 1];
-    check_eq(five.decode(&[4, 4, 7, 4, 7], &[0; 5], &mut one, &mut []), Ok(2))?;
+    check_eq(
+        five.decode(&[4, 4, 7, 4, 7], &[0; 5], &mut one, &mut []),
+        Ok(2),
+    )?;
     check_eq(one[0], 4)?;
-    check_eq(five.decode(&[4, 4, 7, 4, 7], &[1, 0, 0, 0, 0], &mut one, &mut []), Err(CodeFault::Reach))?;
+    check_eq(
+        five.decode(&[4, 4, 7, 4, 7], &[1, 0, 0, 0, 0], &mut one, &mut []),
+        Err(CodeFault::Reach),
+    )?;
     let eleven = Prime::new(11)?;
     let points = [1u16, 3, 9, 5, 4];
     let trimmed = Trimmed::new(Evaluation::new(eleven, 5, 2, &points[..]), 1);
     let mut scratch = [0u16; 48];
-    check_eq(trimmed.decode(&[5, 9, 1, 2, 0], &[0; 5], &mut one, &mut scratch), Err(CodeFault::Reach))
+    check_eq(
+        trimmed.decode(&[5, 9, 1, 2, 0], &[0; 5], &mut one, &mut scratch),
+        Err(CodeFault::Reach),
+    )
 }
 
 #[test]
@@ -85,6 +131,9 @@ fn three_layers_over_bytes() -> Result<(), Fail> {
     let mut message = [0u16; 2];
     let wrong = word[2] ^ 1;
     word[2] = wrong;
-    check_eq(pile.decode(&word, &[0; 6], &mut message, &mut scratch), Ok(1))?;
+    check_eq(
+        pile.decode(&word, &[0; 6], &mut message, &mut scratch),
+        Ok(1),
+    )?;
     check_eq(&message, &[200, 100])
 }

@@ -28,7 +28,10 @@ fn a_late_row_that_is_refused() -> Result<(), Fail> {
     check_eq(collector.deliver(1, &[4, 2]), Ok(()))?;
     check_eq(collector.deliver(2, &[4, 3]), Ok(()))?;
     let mut sheet = [9u16; 2];
-    let fault = CollectorFault::Code { fault: CodeFault::Reach, row: 1 };
+    let fault = CollectorFault::Code {
+        fault: CodeFault::Reach,
+        row: 1,
+    };
     check_eq(collector.read(&mut sheet, &mut []), Err(fault))?;
     check_eq(&sheet, &[9, 9])?;
     check_eq(collector.strike(2), Ok(()))?;
@@ -43,24 +46,76 @@ fn depths_and_lengths() -> Result<(), Fail> {
     check_eq(deep.fitness(), Ok(()))?;
     check_eq(deep.deliver(127, &[10; 16]), Ok(()))?;
     check_eq(deep.deliver(128, &[10; 16]), Err(CollectorFault::Place))?;
-    check_eq(Collector::new(Repetition::new(11, 5), 17).fitness(), Err(CollectorFault::Depth))?;
-    check_eq(Collector::new(Repetition::new(11, 5), 0).fitness(), Err(CollectorFault::Depth))?;
+    check_eq(
+        Collector::new(Repetition::new(11, 5), 17).fitness(),
+        Err(CollectorFault::Depth),
+    )?;
+    check_eq(
+        Collector::new(Repetition::new(11, 5), 0).fitness(),
+        Err(CollectorFault::Depth),
+    )?;
     let mut sheet = [9u16; 3];
-    check_eq(deep.read(&mut sheet, &mut []), Err(CollectorFault::SheetLength))
+    check_eq(
+        deep.read(&mut sheet, &mut []),
+        Err(CollectorFault::SheetLength),
+    )
 }
 
 #[test]
 fn a_run_of_calls(rt: LibcRuntime) -> Result<(), Fail> {
     let heap = rt.alloc();
     let mut calls: Vec<Call> = Vec::new(heap);
-    calls.push(Call::Deliver { place: 0, strip: vec![in heap; 200, 7]?, answer: None })?;
-    calls.push(Call::Deliver { place: 0, strip: vec![in heap; 1, 1]?, answer: None })?;
-    calls.push(Call::Strike { place: 3, answer: None })?;
-    calls.push(Call::Deliver { place: 3, strip: vec![in heap; 200, 7]?, answer: None })?;
-    calls.push(Call::Read { sheet: vec![in heap; 0, 0]?, scratch: vec![in heap; 0; 35]?, answer: None })?;
-    run(Evaluation::new(Gf256::new(), 4, 1, Upto::new(4)), 2, &mut calls);
+    calls.push(Call::Deliver {
+        place: 0,
+        strip: vec![in heap; 200, 7]?,
+        answer: None,
+    })?;
+    calls.push(Call::Deliver {
+        place: 0,
+        strip: vec![in heap; 1, 1]?,
+        answer: None,
+    })?;
+    calls.push(Call::Strike {
+        place: 3,
+        answer: None,
+    })?;
+    calls.push(Call::Deliver {
+        place: 3,
+        strip: vec![in heap; 200, 7]?,
+        answer: None,
+    })?;
+    calls.push(Call::Read {
+        sheet: vec![in heap; 0, 0]?,
+        scratch: vec![in heap; 0; 35]?,
+        answer: None,
+    })?;
+    run(
+        Evaluation::new(Gf256::new(), 4, 1, Upto::new(4)),
+        2,
+        &mut calls,
+    );
     check(calls.len() == 5)?;
-    check(matches!(&calls[1], Call::Deliver { place: _, strip: _, answer: Some(Err(CollectorFault::Taken)) }))?;
-    check(matches!(&calls[2], Call::Strike { place: _, answer: Some(Err(CollectorFault::Vacant)) }))?;
-    check(matches!(&calls[4], Call::Read { sheet: _, scratch: _, answer: Some(Ok(0)) }))
+    check(matches!(
+        &calls[1],
+        Call::Deliver {
+            place: _,
+            strip: _,
+            answer: Some(Err(CollectorFault::Taken))
+        }
+    ))?;
+    check(matches!(
+        &calls[2],
+        Call::Strike {
+            place: _,
+            answer: Some(Err(CollectorFault::Vacant))
+        }
+    ))?;
+    check(matches!(
+        &calls[4],
+        Call::Read {
+            sheet: _,
+            scratch: _,
+            answer: Some(Ok(0))
+        }
+    ))
 }

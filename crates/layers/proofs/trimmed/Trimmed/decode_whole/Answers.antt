@@ -6,7 +6,7 @@ use Rattle.std.proofs.shelf.Parts.{between-to-end}
 use Rattle.std.proofs.shelf.Results.{err-from-errBy}
 use Rattle.std.specs.Holes.{between}
 use Rattle.std.specs.declared.result.Result.the-variants.{Ok, Err}
-use Rattle.layers.specs.Trimmed.{zero-check}
+use Rattle.codes.specs.Checks.{zero-check}
 use Rattle.layers.proofs.Trim.{none-below, zeros-below, others-below}
 use Rattle.layers.proofs.trimmed.Trimmed.decode_whole.Needs as need
 
