@@ -12,7 +12,8 @@ use Rattle.std.proofs.shelf.Ways.{tells}
 use Rattle.std.specs.declared.option.Option.the-variants.{Some, None}
 use Rattle.std.specs.declared.result.Result.the-variants.{Ok, Err}
 use Rattle.fields.specs.Numbers.{Below}
-use Rattle.codes.specs.Checks.{Check, unless, andThen, number-check, unmarked-check}
+use Rattle.fields.specs.Checks.{Check, unless, andThen}
+use Rattle.codes.specs.Checks.{number-check, unmarked-check}
 use Rattle.codes.specs.declared.fault.CodeFault.{CodeFault}
 use Rattle.carrier.specs.declared.fault.CollectorFault.{CollectorFault}
 use Rattle.carrier.specs.declared.fault.CollectorFault.the-variants.{Place, StripLength, Taken, Vacant}

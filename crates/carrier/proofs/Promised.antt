@@ -13,7 +13,7 @@ use Rattle.std.specs.declared.option.Option.the-variants.{Some, None}
 use Rattle.std.specs.declared.result.Result.{Result}
 use Rattle.std.specs.declared.result.Result.the-variants.{Ok, Err}
 use Rattle.fields.specs.Numbers.{Below}
-use Rattle.codes.specs.Checks.{Check, andThen}
+use Rattle.fields.specs.Checks.{Check, andThen}
 use Rattle.codes.specs.Meaning.{Meaning, Message, Sound}
 use Rattle.codes.specs.Words.{wrong, missing}
 use Rattle.codes.specs.declared.fault.CodeFault.the-variants.{Reach}

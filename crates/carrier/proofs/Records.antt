@@ -12,7 +12,8 @@ use Rattle.std.proofs.shelf.Ways.{tells}
 use Rattle.std.specs.declared.option.Option.{Option}
 use Rattle.std.specs.declared.option.Option.the-variants.{Some, None}
 use Rattle.std.specs.declared.result.Result.the-variants.{Ok, Err}
-use Rattle.codes.specs.Checks.{Check, unless, andThen, number-check}
+use Rattle.fields.specs.Checks.{Check, unless, andThen}
+use Rattle.codes.specs.Checks.{number-check}
 use Rattle.codes.specs.Meaning.{Meaning}
 use Rattle.codes.specs.declared.fault.CodeFault.the-variants.{Scratch}
 use Rattle.codes.specs.declared.fault.FitnessFault.{FitnessFault}

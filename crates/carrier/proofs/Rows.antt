@@ -19,7 +19,8 @@ use Rattle.std.specs.declared.option.Option.{Option}
 use Rattle.std.specs.declared.option.Option.the-variants.{Some, None}
 use Rattle.std.specs.declared.result.Result.{Result}
 use Rattle.std.specs.declared.result.Result.the-variants.{Ok, Err}
-use Rattle.codes.specs.Checks.{Check, unless, whenFit, unmarked-check}
+use Rattle.fields.specs.Checks.{Check, unless}
+use Rattle.codes.specs.Checks.{whenFit, unmarked-check}
 use Rattle.codes.specs.Meaning.{Meaning, Reached, decode-check, Decided}
 use Rattle.codes.specs.Words.{wrong}
 use Rattle.codes.specs.declared.fault.CodeFault.{CodeFault}

@@ -14,7 +14,7 @@ use Rattle.std.proofs.shelf.Ways.{tells}
 use Rattle.std.specs.declared.option.Option.the-variants.{None}
 use Rattle.std.specs.declared.result.Result.{Result}
 use Rattle.std.specs.declared.result.Result.the-variants.{Ok, Err}
-use Rattle.codes.specs.Checks.{Check, andThen}
+use Rattle.fields.specs.Checks.{Check, andThen}
 use Rattle.codes.specs.Meaning.{Meaning, Sound}
 use Rattle.codes.specs.declared.fault.CodeFault.{CodeFault}
 use Rattle.codes.proofs.Reach.{one-reached}

@@ -6,7 +6,8 @@ use lib.Dec.{eqb, ltb, leb}
 use lib.ListN.{length, getD}
 use Rattle.std.specs.declared.option.Option.the-variants.{None}
 use Rattle.std.specs.declared.result.Result.the-variants.{Ok, Err}
-use Rattle.codes.specs.Checks.{Check, unless, andThen, number-check}
+use Rattle.fields.specs.Checks.{Check, unless, andThen}
+use Rattle.codes.specs.Checks.{number-check}
 use Rattle.codes.specs.Meaning.{Meaning}
 use Rattle.codes.specs.declared.fault.CodeFault.{CodeFault}
 use Rattle.codes.specs.declared.fault.CodeFault.the-variants.{Unfit, Scratch}

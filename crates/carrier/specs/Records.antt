@@ -7,7 +7,7 @@ use Rattle.std.specs.declared.option.Option.{Option}
 use Rattle.std.specs.declared.option.Option.the-variants.{Some, None}
 use Rattle.std.specs.declared.result.Result.{Result}
 use Rattle.fields.specs.Numbers.{Below}
-use Rattle.codes.specs.Checks.{Check}
+use Rattle.fields.specs.Checks.{Check}
 use Rattle.codes.specs.Meaning.{Meaning}
 use Rattle.codes.specs.declared.interface.Code as decoder
 use Rattle.codes.specs.declared.interface.Issuer as issuer

@@ -5,7 +5,7 @@ use Rattle.std.specs.Of.Vec.{vec-items}
 use Rattle.std.specs.declared.option.Option.the-variants.{Some, None}
 use Rattle.std.specs.declared.result.Result.{Result}
 use Rattle.std.specs.declared.result.Result.the-variants.{Err}
-use Rattle.codes.specs.Checks.{Check}
+use Rattle.fields.specs.Checks.{Check}
 use Rattle.carrier.specs.declared.call.Call.{Call as Asked}
 use Rattle.carrier.specs.declared.call.Call.the-variants.{Deliver, Strike, Read}
 use Rattle.carrier.specs.declared.fault.CollectorFault.{CollectorFault}

@@ -8,7 +8,8 @@ use Rattle.std.specs.declared.option.Option.{Option}
 use Rattle.std.specs.declared.option.Option.the-variants.{Some, None}
 use Rattle.std.specs.declared.result.Result.{Result}
 use Rattle.std.specs.declared.result.Result.the-variants.{Ok, Err}
-use Rattle.codes.specs.Checks.{Check, unmarked-check}
+use Rattle.fields.specs.Checks.{Check}
+use Rattle.codes.specs.Checks.{unmarked-check}
 use Rattle.codes.specs.Meaning.{Meaning, Reached}
 use Rattle.codes.specs.Words.{wrong}
 use Rattle.codes.specs.declared.fault.CodeFault.{CodeFault}

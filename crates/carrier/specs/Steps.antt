@@ -5,7 +5,7 @@ use Prim.Native.Nat.{ℕ, _<_}
 use lib.ListN.{length, drop}
 use Rattle.std.specs.declared.result.Result.{Result}
 use Rattle.std.specs.declared.result.Result.the-variants.{Ok, Err}
-use Rattle.codes.specs.Checks.{Check}
+use Rattle.fields.specs.Checks.{Check}
 use Rattle.codes.specs.Meaning.{Meaning}
 use Rattle.codes.specs.declared.fault.CodeFault.the-variants.{Reach}
 use Rattle.carrier.specs.declared.fault.CollectorFault.{CollectorFault}

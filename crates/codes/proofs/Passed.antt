@@ -10,7 +10,8 @@ use Rattle.std.proofs.shelf.Ways.{tells}
 use Rattle.std.specs.declared.result.Result.{Result}
 use Rattle.std.specs.declared.result.Result.the-variants.{Ok, Err}
 use Rattle.fields.specs.Numbers.{Below}
-use Rattle.codes.specs.Checks.{Check, unless, whenFit, number-check, unmarked-check}
+use Rattle.fields.specs.Checks.{Check, unless}
+use Rattle.codes.specs.Checks.{whenFit, number-check, unmarked-check}
 use Rattle.codes.specs.Meaning.{Meaning, Message, issue-check, decode-check, Solved, Accepted, Decided}
 use Rattle.codes.specs.declared.fault.CodeFault.{CodeFault}
 use Rattle.codes.specs.declared.fault.CodeFault.the-variants.{MessageLength, WordLength, Scratch}

@@ -10,7 +10,8 @@ use lib.ListN.{length, drop, getD}
 use Rattle.std.proofs.shelf.Lists.{at-drop-more, at-drop-all}
 use Rattle.std.proofs.shelf.Tests.{cases-lt}
 use Rattle.std.specs.declared.result.Result.the-variants.{Ok}
-use Rattle.codes.specs.Checks.{unless, number-check, unmarked-check, zero-check}
+use Rattle.fields.specs.Checks.{unless}
+use Rattle.codes.specs.Checks.{number-check, unmarked-check, zero-check}
 use Rattle.codes.specs.Words.{missing, wrong}
 use Rattle.codes.specs.declared.fault.CodeFault.the-variants.{Number, Reach}
 

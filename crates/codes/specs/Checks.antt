@@ -3,24 +3,11 @@ use mathlib.Core.Bool.{Bool, cond}
 use mathlib.Core.List.{List, [], _∷_}
 use Prim.Native.Nat.{ℕ, _+_}
 use lib.Dec.{eqb, ltb}
-use Rattle.std.specs.declared.result.Result.{Result}
+use Rattle.fields.specs.Checks.{Check, unless}
 use Rattle.std.specs.declared.result.Result.the-variants.{Ok, Err}
 use Rattle.codes.specs.declared.fault.CodeFault.{CodeFault}
 use Rattle.codes.specs.declared.fault.CodeFault.the-variants.{Unfit, Number, Reach}
 use Rattle.codes.specs.declared.fault.FitnessFault.{FitnessFault}
-
--- passed, or the fault
-abbrev pub Check : Type 0 → Type 0
-Check E = Result (Unit {0}) E
-
--- the fault, unless the test holds; where it holds, what the later checks say
-abbrev pub unless : {E : Type 0} → Bool → E → Check E → Check E
-unless b f later = cond b later (Err f)
-
--- a check, and where it passes, what the later checks say
-abbrev pub andThen : {E : Type 0} → Check E → Check E → Check E
-andThen (Ok u) later = later
-andThen (Err f) later = Err f
 
 -- the fitness of a code, as the first check of a call
 abbrev pub whenFit : Check FitnessFault → Check CodeFault → Check CodeFault

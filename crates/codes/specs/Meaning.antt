@@ -9,7 +9,8 @@ use lib.ListN.{length, drop}
 use Rattle.std.specs.declared.result.Result.{Result}
 use Rattle.std.specs.declared.result.Result.the-variants.{Ok, Err}
 use Rattle.fields.specs.Numbers.{Below, differ}
-use Rattle.codes.specs.Checks.{Check, unless, whenFit, number-check, unmarked-check}
+use Rattle.fields.specs.Checks.{Check, unless}
+use Rattle.codes.specs.Checks.{whenFit, number-check, unmarked-check}
 use Rattle.codes.specs.Words.{wrong, missing}
 use Rattle.codes.specs.declared.fault.CodeFault.{CodeFault}
 use Rattle.codes.specs.declared.fault.CodeFault.the-variants.{MessageLength, WordLength, Scratch, Reach}

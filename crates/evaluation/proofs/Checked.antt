@@ -12,7 +12,7 @@ use Rattle.std.proofs.shelf.Ways.{tells}
 use Rattle.std.specs.shelf.Lists.{All}
 use Rattle.std.specs.declared.result.Result.the-variants.{Ok, Err}
 use Rattle.fields.specs.Numbers.{Below, Distinct, among}
-use Rattle.codes.specs.Checks.{Check, unless, andThen}
+use Rattle.fields.specs.Checks.{Check, unless, andThen}
 use Rattle.codes.specs.declared.fault.FitnessFault.{FitnessFault}
 use Rattle.codes.specs.declared.fault.FitnessFault.the-variants.{Point}
 use Rattle.evaluation.specs.Evaluation.{shape-check, point-check, evaluation-fit, Proper}

@@ -16,7 +16,7 @@ use Rattle.fields.proofs.Total.{total-laws}
 use Rattle.linear.specs.Polynomials.{value, word}
 use Rattle.linear.proofs.Distance
 use Rattle.linear.proofs.Roots
-use Rattle.codes.specs.Checks.{Check}
+use Rattle.fields.specs.Checks.{Check}
 use Rattle.codes.specs.Meaning.{Meaning, Message, Reached, Sound, Solved}
 use Rattle.codes.specs.Words.{missing, wrong}
 use Rattle.codes.specs.declared.fault.CodeFault.{CodeFault}

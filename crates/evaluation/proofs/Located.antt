@@ -10,7 +10,7 @@ use Rattle.fields.specs.Numbers.{Below, Zeros, Distinct}
 use Rattle.fields.proofs.Total.{TotalLaws}
 use Rattle.linear.specs.Equations.{dot, Solution}
 use Rattle.linear.proofs.Grid.{row-front}
-use Rattle.codes.specs.Checks.{Check}
+use Rattle.fields.specs.Checks.{Check}
 use Rattle.codes.specs.declared.fault.CodeFault.{CodeFault}
 use Rattle.evaluation.specs.Decoding.{equation, Equations, Quotient, Located}
 use Rattle.evaluation.proofs.Locator.{Meets, meets-from, dot-equation, key, sound}

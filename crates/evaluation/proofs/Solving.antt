@@ -13,7 +13,8 @@ use Rattle.std.proofs.shelf.Ways.{tells}
 use Rattle.std.specs.declared.option.Option.the-variants.{Some, None}
 use Rattle.std.specs.declared.result.Result.the-variants.{Ok, Err}
 use Rattle.fields.specs.Numbers.{Below, Zeros}
-use Rattle.linear.specs.Checks.{unless, unless-found, stray, nonzero}
+use Rattle.fields.specs.Checks.{unless}
+use Rattle.linear.specs.Checks.{unless-found, stray, nonzero}
 use Rattle.linear.specs.Division.{divide-check}
 use Rattle.linear.specs.Equations.{row, solve-check}
 use Rattle.linear.proofs.Grid.{row-zero, row-suc}

@@ -8,7 +8,7 @@ use Rattle.fields.specs.Arithmetic.{Arithmetic}
 use Rattle.fields.specs.Numbers.{Below, Zeros, Distinct, differ}
 use Rattle.linear.specs.Equations.{row}
 use Rattle.linear.specs.Polynomials.{added, product, word}
-use Rattle.codes.specs.Checks.{Check}
+use Rattle.fields.specs.Checks.{Check}
 use Rattle.codes.specs.declared.fault.CodeFault.{CodeFault}
 use Rattle.codes.specs.declared.fault.CodeFault.the-variants.{Reach}
 

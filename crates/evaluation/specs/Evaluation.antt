@@ -10,7 +10,7 @@ use Rattle.std.specs.declared.result.Result.the-variants.{Ok}
 use Rattle.fields.specs.Arithmetic.{Arithmetic, total}
 use Rattle.fields.specs.Numbers.{Below, Distinct, among}
 use Rattle.linear.specs.Polynomials.{value, word}
-use Rattle.codes.specs.Checks.{Check, unless, andThen}
+use Rattle.fields.specs.Checks.{Check, unless, andThen}
 use Rattle.codes.specs.Meaning.{Meaning, Sound}
 use Rattle.codes.specs.declared.fault.FitnessFault.{FitnessFault}
 use Rattle.codes.specs.declared.fault.FitnessFault.the-variants.{Length, Dimension, Point}

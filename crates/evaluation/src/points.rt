@@ -2,9 +2,9 @@
 ghost use mathlib.Core.List.{[]};
 ghost use mathlib.Core.Path.{_≡_};
 ghost use Prim.Native.Nat.{ℕ};
-ghost use Rattle.fields.specs.Numbers.{among};
 ghost use Rattle.evaluation.specs.Evaluation.{shape-check, point-check};
 use codes::fault::FitnessFault;
+use fields::numbers::is_among;
 
 // The checks of the length n, the dimension k and the count of the points.
 pub fn check_shape(n: usize, k: usize, count: usize) -> Result<(), FitnessFault>
@@ -33,16 +33,4 @@ pub fn check_points(order: u32, points: &[u16]) -> Result<(), FitnessFault>
         }
     }
     Ok(())
-}
-
-// Whether x is one of the numbers.
-fn is_among(x: u16, numbers: &[u16]) -> bool
-    ensures { λ r. ⌜ r ≡ among x (now (numbers .entry)) ⌝ }
-{
-    for y in numbers {
-        if *y == x {
-            return true;
-        }
-    }
-    false
 }

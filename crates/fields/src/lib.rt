@@ -2,6 +2,7 @@
 pub mod fault;
 pub mod field;
 pub mod gf256;
+pub mod numbers;
 pub mod prime;
 #[cfg(test)]
 mod tests;

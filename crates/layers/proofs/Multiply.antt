@@ -16,7 +16,8 @@ use Rattle.fields.proofs.Total.{TotalLaws}
 use Rattle.fields.specs.Arithmetic.{Arithmetic}
 use Rattle.fields.specs.Numbers.{Below, differ}
 use Rattle.codes.proofs.Lists.{getD-zeros}
-use Rattle.codes.specs.Checks.{unless, unmarked-check}
+use Rattle.fields.specs.Checks.{unless}
+use Rattle.codes.specs.Checks.{unmarked-check}
 use Rattle.codes.specs.Words.{wrong}
 use Rattle.codes.specs.declared.fault.CodeFault.the-variants.{Number}
 use Rattle.layers.specs.Scaled.{products, quotients, Units}

@@ -16,7 +16,8 @@ use Rattle.fields.specs.Arithmetic.{Arithmetic, total}
 use Rattle.fields.specs.Laws.{Sizes, Sums, Products, Inverses, Laws}
 use Rattle.fields.specs.Numbers.{Below}
 use Rattle.codes.proofs.Passed.{passes, decided-ok, decided-from}
-use Rattle.codes.specs.Checks.{Check, unless, andThen, unmarked-check}
+use Rattle.fields.specs.Checks.{Check, unless, andThen}
+use Rattle.codes.specs.Checks.{unmarked-check}
 use Rattle.codes.specs.Meaning.{Meaning, Message, Reached, Sound, decode-check, Solved, Decoded}
 use Rattle.codes.specs.Words.{wrong}
 use Rattle.codes.specs.declared.fault.CodeFault.{CodeFault}

@@ -15,7 +15,7 @@ use Rattle.std.specs.declared.result.Result.the-variants.{Ok, Err}
 use Rattle.fields.specs.Numbers.{Below}
 use Rattle.codes.proofs.Passed.{Passed, passed, passes, issuable, issues, decided-ok}
 use Rattle.codes.proofs.Reach.{one-reached}
-use Rattle.codes.specs.Checks.{Check, unless, andThen}
+use Rattle.fields.specs.Checks.{Check, unless, andThen}
 use Rattle.codes.specs.Lists.{filled}
 use Rattle.codes.specs.Meaning.{Meaning, Message, Reached, Sound, issue-check, decode-check, Solved, Found, OutOfReach, Accepted, Decoded}
 use Rattle.codes.specs.declared.fault.CodeFault.{CodeFault}

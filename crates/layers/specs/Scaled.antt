@@ -7,7 +7,7 @@ use lib.ListN.{length}
 use Rattle.std.specs.declared.result.Result.the-variants.{Ok}
 use Rattle.std.specs.shelf.Lists.{All}
 use Rattle.fields.specs.Arithmetic.{Arithmetic, total}
-use Rattle.codes.specs.Checks.{Check, unless, andThen}
+use Rattle.fields.specs.Checks.{Check, unless, andThen}
 use Rattle.codes.specs.Meaning.{Meaning}
 use Rattle.codes.specs.declared.fault.FitnessFault.{FitnessFault}
 use Rattle.codes.specs.declared.fault.FitnessFault.the-variants.{Length, FieldSize, Multiplier}

@@ -4,7 +4,7 @@ use Prim.Native.Nat.{ℕ, _-_}
 use lib.Dec.{ltb}
 use lib.ListN.{replicate}
 use Rattle.std.specs.declared.result.Result.the-variants.{Ok}
-use Rattle.codes.specs.Checks.{unless, andThen}
+use Rattle.fields.specs.Checks.{unless, andThen}
 use Rattle.codes.specs.Meaning.{Meaning}
 use Rattle.codes.specs.declared.fault.FitnessFault.the-variants.{Trim}
 

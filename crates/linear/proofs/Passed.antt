@@ -11,7 +11,8 @@ use Rattle.std.specs.declared.option.Option.{Option}
 use Rattle.std.specs.declared.option.Option.the-variants.{Some, None}
 use Rattle.std.specs.declared.result.Result.the-variants.{Ok}
 use Rattle.fields.specs.Numbers.{Below}
-use Rattle.linear.specs.Checks.{Check, unless, unless-found, stray}
+use Rattle.fields.specs.Checks.{Check, unless}
+use Rattle.linear.specs.Checks.{unless-found, stray}
 use Rattle.linear.specs.Division.{numbers-check}
 use Rattle.linear.specs.Equations.{solve-check}
 use Rattle.linear.specs.declared.fault.DivideFault.the-variants.{Length, Dividend, Divisor}

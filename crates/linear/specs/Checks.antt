@@ -1,30 +1,17 @@
--- Checks in order: the first that fails gives the fault.
+-- Searches, and a check that a search finds nothing.
 use mathlib.Core.Bool.{Bool, false, cond, not, _||_}
 use mathlib.Core.List.{List, [], _∷_}
 use Prim.Native.Nat.{ℕ, _+_}
 use lib.Dec.{eqb, ltb}
 use Rattle.std.specs.declared.option.Option.{Option}
 use Rattle.std.specs.declared.option.Option.the-variants.{Some, None}
-use Rattle.std.specs.declared.result.Result.{Result}
-use Rattle.std.specs.declared.result.Result.the-variants.{Ok, Err}
-
--- all passed, or the fault of the first that failed
-abbrev pub Check : Type 0 → Type 0
-Check Fault = Result (Unit {0}) Fault
-
--- a test that must be true, before the others
-abbrev pub unless : {Fault : Type 0} → Bool → Fault → Check Fault → Check Fault
-unless passed fault rest = cond passed rest (Err fault)
+use Rattle.fields.specs.Checks.{Check}
+use Rattle.std.specs.declared.result.Result.the-variants.{Err}
 
 -- a search that must find nothing, before the others; the fault has the place that it found
 abbrev pub unless-found : {Fault : Type 0} → Option ℕ → (ℕ → Fault) → Check Fault → Check Fault
 unless-found (Some place) fault rest = Err (fault place)
 unless-found None fault rest = rest
-
--- checks before others
-abbrev pub andThen : {Fault : Type 0} → Check Fault → Check Fault → Check Fault
-andThen (Ok u) rest = rest
-andThen (Err fault) rest = Err fault
 
 -- the first place with a number that is not below q, where the list begins at place i
 abbrev pub stray : ℕ → ℕ → List ℕ → Option ℕ

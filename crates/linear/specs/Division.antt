@@ -10,7 +10,8 @@ use Rattle.std.specs.declared.option.Option.the-variants.{Some, None}
 use Rattle.std.specs.declared.result.Result.the-variants.{Ok, Err}
 use Rattle.fields.specs.Arithmetic.{Arithmetic}
 use Rattle.fields.specs.Numbers.{Below, Zeros}
-use Rattle.linear.specs.Checks.{Check, unless, unless-found, andThen, stray, nonzero}
+use Rattle.fields.specs.Checks.{Check, unless, andThen}
+use Rattle.linear.specs.Checks.{unless-found, stray, nonzero}
 use Rattle.linear.specs.Polynomials.{value, added, product, Same}
 use Rattle.linear.specs.declared.fault.DivideFault.{DivideFault}
 use Rattle.linear.specs.declared.fault.DivideFault.the-variants.{Length, Dividend, Divisor, Zero}

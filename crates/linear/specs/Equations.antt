@@ -7,7 +7,8 @@ use lib.ListN.{length, getD, take, drop}
 use Rattle.std.specs.declared.result.Result.the-variants.{Ok, Err}
 use Rattle.fields.specs.Arithmetic.{Arithmetic}
 use Rattle.fields.specs.Numbers.{Below, Zeros}
-use Rattle.linear.specs.Checks.{Check, unless, unless-found, stray}
+use Rattle.fields.specs.Checks.{Check, unless}
+use Rattle.linear.specs.Checks.{unless-found, stray}
 use Rattle.linear.specs.Polynomials.{added, scaled}
 use Rattle.linear.specs.declared.fault.SolveFault.{SolveFault}
 use Rattle.linear.specs.declared.fault.SolveFault.the-variants.{Unknowns, Scratch, Number}

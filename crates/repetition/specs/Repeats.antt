@@ -7,7 +7,7 @@ use lib.Dec.{leb}
 use lib.ListN.{replicate, length, getD}
 use Rattle.std.specs.declared.result.Result.{Result}
 use Rattle.std.specs.declared.result.Result.the-variants.{Ok, Err}
-use Rattle.codes.specs.Checks.{unless}
+use Rattle.fields.specs.Checks.{unless}
 use Rattle.codes.specs.Meaning.{Meaning}
 use Rattle.codes.specs.Words.{wrong, missing}
 use Rattle.codes.specs.declared.fault.CodeFault.{CodeFault}

@@ -5,24 +5,13 @@ ghost use Rattle.fields.specs.Numbers.{among};
 ghost use Rattle.fields.specs.Primes.{moduli};
 use super::Prime;
 use crate::fault::FieldFault;
+use crate::numbers::is_among;
 
 // The listed moduli: the primes below 100 and three larger ones.
 #[rattlefmt::skip]
 const MODULI: [u16; 28] = [
     2, 3, 5, 7, 11, 13, 17, 19, 23, 29, 31, 37, 41, 43, 47, 53, 59, 61, 67, 71, 73, 79, 83, 89, 97, 929, 997, 65521,
 ];
-
-// Whether n is one of the numbers.
-fn is_among(n: u16, numbers: &[u16]) -> bool
-    ensures { λ r. ⌜ r ≡ among n (now (numbers .entry)) ⌝ }
-{
-    for m in numbers {
-        if *m == n {
-            return true;
-        }
-    }
-    false
-}
 
 // Whether a prime field may have the modulus.
 fn is_listed(modulus: u16) -> bool

@@ -2,7 +2,8 @@ use mathlib.Core.Path.{_≡_, refl, sym, ap, _∙_}
 use lib.ListN.{length}
 use Rattle.std.specs.declared.result.Result.the-variants.{Ok}
 use Rattle.fields.specs.Numbers.{Below}
-use Rattle.linear.specs.Checks.{unless, andThen, nonzero}
+use Rattle.fields.specs.Checks.{unless, andThen}
+use Rattle.linear.specs.Checks.{nonzero}
 use Rattle.linear.specs.Division.{numbers-check}
 use Rattle.linear.specs.Operations.{operations}
 use Rattle.linear.specs.declared.fault.DivideFault.the-variants.{Zero}

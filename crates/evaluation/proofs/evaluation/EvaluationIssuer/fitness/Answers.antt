@@ -4,7 +4,7 @@ use Prim.Native.Nat.{ℕ, _-_}
 use native.Mathlib.Omega.{arith}
 use lib.ListN.{length, take}
 use Rattle.std.specs.declared.result.Result.the-variants.{Ok}
-use Rattle.codes.specs.Checks.{Check, andThen}
+use Rattle.fields.specs.Checks.{Check, andThen}
 use Rattle.codes.specs.declared.fault.FitnessFault.{FitnessFault}
 use Rattle.codes.proofs.Lists.{front-filled}
 use Rattle.evaluation.specs.Evaluation.{shape-check, point-check}

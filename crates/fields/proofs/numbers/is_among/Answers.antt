@@ -7,7 +7,7 @@ use native.Mathlib.Omega.{arith}
 use Prim.Native.Nat.{_+_}
 use Rattle.std.proofs.shelf.Lists.{at-drop-more, at-drop-all}
 use Rattle.fields.specs.Numbers.{among}
-use Rattle.fields.proofs.prime.make.is_among.Needs as need
+use Rattle.fields.proofs.numbers.is_among.Needs as need
 
 pub loop-m-again : need.loop-m-again
 loop-m-again c =
