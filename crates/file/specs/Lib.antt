@@ -1,0 +1,4 @@
+pub mod Faults
+pub mod Form
+pub mod Meant
+pub mod Reads

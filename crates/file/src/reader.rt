@@ -1,0 +1,12 @@
+// A file that was accepted: its heading, and the part with the strips.
+use crate::heading::Heading;
+
+mod open;
+
+pub use open::read;
+
+#[derive(Clone, Copy)]
+pub struct Reader<'a> {
+    heading: Heading,
+    strips: &'a [u8],
+}
