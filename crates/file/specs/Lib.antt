@@ -2,3 +2,4 @@ pub mod Faults
 pub mod Form
 pub mod Meant
 pub mod Reads
+pub mod Writes

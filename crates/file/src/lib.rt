@@ -3,3 +3,6 @@ mod choice;
 pub mod fault;
 pub mod heading;
 pub mod reader;
+mod writing;
+
+pub use writing::write;
