@@ -1,2 +1,3 @@
 pub mod Forms
 pub mod Putting
+pub mod Delivering

@@ -3,3 +3,5 @@ pub mod Form
 pub mod Meant
 pub mod Reads
 pub mod Writes
+pub mod Fetches
+pub mod Deliveries
