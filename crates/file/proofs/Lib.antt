@@ -1,3 +1,4 @@
 pub mod Forms
 pub mod Putting
 pub mod Delivering
+pub mod Receiving

@@ -5,3 +5,4 @@ pub mod Reads
 pub mod Writes
 pub mod Fetches
 pub mod Deliveries
+pub mod Receipts

@@ -3,6 +3,7 @@ mod choice;
 pub mod fault;
 pub mod heading;
 pub mod reader;
+pub mod received;
 pub mod source;
 mod writing;
 

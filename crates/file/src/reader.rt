@@ -2,8 +2,10 @@
 use crate::heading::Heading;
 
 mod open;
+mod strips;
 
 pub use open::read;
+pub use strips::ReaderSource;
 
 #[derive(Clone, Copy)]
 pub struct Reader<'a> {
