@@ -6,3 +6,4 @@ pub mod Writes
 pub mod Fetches
 pub mod Deliveries
 pub mod Receipts
+pub mod Theorems

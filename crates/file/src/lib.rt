@@ -5,6 +5,7 @@ pub mod heading;
 pub mod reader;
 pub mod received;
 pub mod source;
+pub mod theorems;
 mod writing;
 
 pub use writing::write;
