@@ -20,11 +20,14 @@ use evaluation::EvaluationIssuer;
 use fields::gf256::Gf256Field;
 use fields::prime::PrimeField;
 
+// How many bytes a file may have that is received whole.
+const LONGEST: usize = 65535;
+
 // The sheet that the strips of a file of at most 65,535 bytes carry.
 pub fn receive(file: &[u8]) -> Result<Received, FileFault>
     ensures { λ r. ⌜ Receives (now (file .entry)) r ⌝ }
 {
-    if file.len() > 65535 {
+    if file.len() > LONGEST {
         return Err(FileFault::TooShort);
     }
     let reader = read(file)?;

@@ -58,7 +58,7 @@ returns-in-Break-wrong c =
     let room : 16899 ≤ length (c .blank-scratch-scratch .result) = omega (arith, ap length (c .blank-scratch-scratch .ensures) ∙ length-replicate {A = ℕ} 16899 0) in
     let m = made (R .heading) ss file T old (c .collect-from .last .sheet) (c .blank-scratch-scratch .result) (c .collect-from .last .scratch) (c .in-Continue-outcome .outcome) (c .in-Continue-outcome .ensures tt) (part-long blank z (R .heading .depth * R .heading .k) whole few size) room in
     rw (p .1, p .2)
-    (inr (c .if-file-gt65535 .left, inr (c .in-Break-wrong .field-0 .0, refl, lost (R .heading) ss file T old (c .collect-from .last .sheet) (c .in-Continue-outcome .outcome .wrong) (c .in-Break-wrong .field-0 .0) (c .in-Break-wrong .was tt) (m .reading))))
+    (inr (c .if-file-gt-LONGEST .left, inr (c .in-Break-wrong .field-0 .0, refl, lost (R .heading) ss file T old (c .collect-from .last .sheet) (c .in-Continue-outcome .outcome .wrong) (c .in-Break-wrong .field-0 .0) (c .in-Break-wrong .was tt) (m .reading))))
 
 pub returns : need.returns
 returns c =
@@ -78,7 +78,7 @@ returns c =
     let long = part-long blank z (R .heading .depth * R .heading .k) whole few size in
     let m = made (R .heading) ss file T old new (c .blank-scratch-scratch .result) (c .collect-from .last .scratch) (c .in-Continue-outcome .outcome) (c .in-Continue-outcome .ensures tt) long room in
     let front : take (R .heading .depth * R .heading .k) (new ++ postOf 0 z blank) ≡ new = take-at new (postOf 0 z blank) (R .heading .depth * R .heading .k) (c .collect-from .kept .sheet ∙ long) in (
-      c .if-file-gt65535 .left,
+      c .if-file-gt-LONGEST .left,
       carries file ss _ old (R .heading) (c .heading-heading .ensures) T (m .kept) (m .declined)
           (found (T .meaning) (R .heading .depth) ss old new (take (R .heading .depth * R .heading .k) (new ++ postOf 0 z blank)) (c .in-Continue-outcome .outcome .wrong) (c .in-Continue-wrong .wrong) (c .in-Continue-wrong .was tt) (sym front) (m .reading)),
     )
