@@ -5,3 +5,4 @@ pub mod Unique
 pub mod Keeping
 pub mod Promised
 pub mod Driven
+pub mod Places

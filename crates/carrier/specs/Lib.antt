@@ -1,5 +1,6 @@
 pub mod Book
 pub mod Kept
+pub mod Places
 pub mod Faults
 pub mod Checks
 pub mod Sheets

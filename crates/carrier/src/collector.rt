@@ -3,6 +3,7 @@ ghost use Rattle.carrier.specs.Book.{Book};
 use crate::table::Table;
 
 mod deliver;
+mod kept;
 mod make;
 mod read;
 mod strike;
