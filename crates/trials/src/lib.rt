@@ -2,6 +2,8 @@
 #[cfg(test)]
 mod decodings;
 #[cfg(test)]
+mod files;
+#[cfg(test)]
 mod runs;
 #[cfg(test)]
 mod words;
