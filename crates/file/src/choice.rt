@@ -2,23 +2,17 @@
 ghost use mathlib.Core.Path.{_≡_};
 ghost use Prim.Native.Nat.{ℕ};
 ghost use Rattle.carrier.specs.Checks.{fit-check};
-ghost use Rattle.file.specs.Meant.{Chosen, meaning-in};
-use crate::fault::FileFault;
-use crate::heading::Heading;
 use carrier::fault::CollectorFault;
 use carrier::fault::FromFitness;
 use codes::interface::Issuer;
 use codes::numbers::Upto;
-use codes::numbers::UptoNumbers;
 use evaluation::Evaluation;
-use evaluation::EvaluationIssuer;
 use fields::gf256::Gf256;
-use fields::gf256::Gf256Field;
 use fields::prime::Prime;
-use fields::prime::PrimeField;
 
 mod pick;
 
+// The evaluation code over a prime field, or over GF(256).
 #[derive(Drop)]
 pub enum FileCode {
     Remainders(Evaluation<Prime, Upto>),

@@ -64,3 +64,52 @@ fn main(rt: LibcRuntime) -> Result<(), AnyError> {
     }
     Ok(())
 }
+
+#[cfg(test)]
+mod tests {
+    use super::*;
+    use file::heading::Heading;
+    use file::write;
+    use std::test::*;
+
+    // The number and the place by which a file is refused, and 0 where it is received.
+    fn refusal(file: &[u8]) -> (u8, usize) {
+        match receive(file) {
+            Ok(_) => (0, 0),
+            Err(fault) => (fault.number(), fault.place()),
+        }
+    }
+
+    #[test]
+    fn refuses_by_the_first_check_that_fails() -> Result<(), Fail> {
+        check_eq(refusal(&[1, 0, 11, 5, 2, 2, 0]), (20, 0))?;
+        check_eq(refusal(&[3, 0, 11, 5, 2, 2, 0, 1]), (21, 0))?;
+        check_eq(refusal(&[1, 0, 9, 5, 2, 2, 0, 1]), (21, 0))?;
+        check_eq(refusal(&[1, 0, 11, 0, 2, 2, 0, 1]), (22, 0))?;
+        check_eq(refusal(&[1, 0, 11, 0, 2, 2, 0, 0]), (2, 0))?;
+        check_eq(refusal(&[1, 0, 3, 5, 2, 0, 0, 0]), (4, 3))?;
+        check_eq(refusal(&[1, 0, 11, 5, 2, 0, 0, 0]), (14, 0))?;
+        check_eq(refusal(&[1, 0, 11, 5, 2, 2, 0, 0]), (13, 0))
+    }
+
+    #[test]
+    fn receives_what_was_written() -> Result<(), Fail> {
+        let heading = Heading {
+            kind: 2,
+            modulus: 285,
+            n: 3,
+            k: 2,
+            depth: 1,
+        };
+        let mut output = [0u8; 20];
+        let Ok(size) = write(&heading, &[5, 7], &mut output) else {
+            return Err(Fail::new("the sheet is refused"));
+        };
+        check_eq(size, 17)?;
+        check_eq(&output[0..9], &[0, 0, 5, 1, 0, 2, 2, 0, 11])?;
+        match receive(&output[0..17]) {
+            Ok(received) => check_eq((received.kept, received.number(0, 1)), (3, 7)),
+            Err(_) => Err(Fail::new("the file is refused")),
+        }
+    }
+}
