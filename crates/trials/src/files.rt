@@ -8,7 +8,36 @@ use file::write;
 use std::test::*;
 
 // Four strips of five, for a sheet of two rows; one number is wrong.
-const EXAMPLE: [u8; 28] = [1, 0, 5, 0, 1, 2, 0, 9, 0, 1, 3, 0, 9, 0, 1, 4, 0, 0, 0, 1, 1, 0, 11, 5, 2, 2, 0, 20];
+const EXAMPLE: [u8; 28] = [
+    1,
+    0,
+    5,
+    0,
+    1,
+    2,
+    0,
+    9,
+    0,
+    1,
+    3,
+    0,
+    9,
+    0,
+    1,
+    4,
+    0,
+    0,
+    0,
+    1,
+    1,
+    0,
+    11,
+    5,
+    2,
+    2,
+    0,
+    20,
+];
 
 // The number and the place of a file's refusal, or 0 and 0.
 fn refusal(file: &[u8]) -> (u8, usize) {
@@ -57,7 +86,31 @@ fn headings_that_are_not_fit() -> Result<(), Fail> {
 
 #[test]
 fn strips_that_are_declined() -> Result<(), Fail> {
-    let file = [0u8, 0, 4, 0, 0, 5, 9, 0, 4, 1, 0, 11, 1, 0, 4, 1, 0, 11, 3, 1, 1, 0, 15];
+    let file = [
+        0u8,
+        0,
+        4,
+        0,
+        0,
+        5,
+        9,
+        0,
+        4,
+        1,
+        0,
+        11,
+        1,
+        0,
+        4,
+        1,
+        0,
+        11,
+        3,
+        1,
+        1,
+        0,
+        15,
+    ];
     let received = receive(&file)?;
     check_eq(received.kept, 2)?;
     check_eq(received.declined, 3)?;
@@ -75,10 +128,22 @@ fn the_longest_file(rt: LibcRuntime) -> Result<(), Fail> {
 
 #[test]
 fn what_is_written_is_read() -> Result<(), Fail> {
-    let heading = Heading { kind: 2, modulus: 285, n: 4, k: 2, depth: 2 };
+    let heading = Heading {
+        kind: 2,
+        modulus: 285,
+        n: 4,
+        k: 2,
+        depth: 2,
+    };
     let mut output = [77u8; 30];
-    check_eq(write(&heading, &[1, 2, 3, 256], &mut output), Err(FileFault::Collector(number_fault())))?;
-    check_eq(write(&heading, &[1, 2, 3, 4], &mut output[0..27]), Err(FileFault::Output))?;
+    check_eq(
+        write(&heading, &[1, 2, 3, 256], &mut output),
+        Err(FileFault::Collector(number_fault())),
+    )?;
+    check_eq(
+        write(&heading, &[1, 2, 3, 4], &mut output[0..27]),
+        Err(FileFault::Output),
+    )?;
     check_eq(output[0], 77)?;
     check_eq(write(&heading, &[1, 2, 3, 4], &mut output), Ok(28))?;
     check_eq(output[28], 77)?;
@@ -89,5 +154,8 @@ fn what_is_written_is_read() -> Result<(), Fail> {
 
 // The fault of the number at place 3.
 fn number_fault() -> carrier::fault::CollectorFault {
-    carrier::fault::CollectorFault::Code { fault: codes::fault::CodeFault::Number(3), row: 0 }
+    carrier::fault::CollectorFault::Code {
+        fault: codes::fault::CodeFault::Number(3),
+        row: 0,
+    }
 }
