@@ -6,6 +6,10 @@ use carrier::fault::CollectorFaultDebug;
 use carrier::fault::CollectorFaultPartialEq;
 use carrier::run::run;
 use codes::fault::CodeFault;
+use codes::fault::CodeFaultDebug;
+use codes::fault::CodeFaultPartialEq;
+use codes::interface::Issuer;
+use codes::numbers::SliceNumbers;
 use codes::numbers::Upto;
 use codes::numbers::UptoNumbers;
 use evaluation::Evaluation;
@@ -16,6 +20,12 @@ use fields::gf256::Gf256;
 use fields::gf256::Gf256Field;
 use fields::prime::Prime;
 use fields::prime::PrimeField;
+use layers::Scaled;
+use layers::ScaledCode;
+use layers::ScaledIssuer;
+use layers::Trimmed;
+use layers::TrimmedCode;
+use layers::TrimmedIssuer;
 use repetition::Repetition;
 use repetition::RepetitionCode;
 use repetition::RepetitionIssuer;
@@ -118,4 +128,48 @@ fn a_run_of_calls(rt: LibcRuntime) -> Result<(), Fail> {
             answer: Some(Ok(0))
         }
     ))
+}
+
+#[test]
+fn a_pile_over_bytes() -> Result<(), Fail> {
+    let bytes = Gf256::new();
+    let by = [3u16, 5, 7, 9];
+    let base = Evaluation::new(bytes, 4, 2, Upto::new(4));
+    let pile = Trimmed::new(Scaled::new(bytes, &by[..], base), 1);
+    let mut word = [0u16; 4];
+    check_eq(pile.issue(&[200], &mut word), Ok(()))?;
+    let mut collector = Collector::new(pile, 1);
+    check_eq(collector.deliver(0, &[word[0]]), Ok(()))?;
+    check_eq(collector.deliver(1, &[word[1]]), Ok(()))?;
+    check_eq(collector.deliver(2, &[word[2] ^ 1]), Ok(()))?;
+    check_eq(collector.deliver(3, &[word[3]]), Ok(()))?;
+    let mut sheet = [9u16; 1];
+    let mut scratch = [0u16; 35];
+    check_eq(collector.read(&mut sheet, &mut scratch), Ok(1))?;
+    check_eq(&sheet, &[200])?;
+    check_eq(collector.strike(0), Ok(()))?;
+    let fault = CollectorFault::Code {
+        fault: CodeFault::Reach,
+        row: 0,
+    };
+    check_eq(collector.read(&mut sheet, &mut scratch), Err(fault))?;
+    check_eq(&sheet, &[200])
+}
+
+#[test]
+fn a_pile_over_a_prime() -> Result<(), Fail> {
+    let eleven = Prime::new(11)?;
+    let by = [3u16, 5, 7, 9];
+    let base = Evaluation::new(eleven, 4, 2, Upto::new(4));
+    let pile = Scaled::new(eleven, &by[..], Trimmed::new(base, 1));
+    let mut word = [0u16; 4];
+    check_eq(pile.issue(&[6], &mut word), Ok(()))?;
+    check_eq(&word, &[7, 8, 9, 10])?;
+    let mut collector = Collector::new(pile, 1);
+    check_eq(collector.deliver(1, &[8]), Ok(()))?;
+    check_eq(collector.deliver(3, &[10]), Ok(()))?;
+    let mut sheet = [9u16; 1];
+    let mut scratch = [0u16; 35];
+    check_eq(collector.read(&mut sheet, &mut scratch), Ok(0))?;
+    check_eq(&sheet, &[6])
 }
