@@ -1,4 +1,7 @@
 // Times the solving of 128 equations in 129 unknowns, over GF(256) and over modulus 929. The time goes to standard error.
+
+#![tactic(auto)]
+
 use fields::field::Field;
 use fields::gf256::Gf256;
 use fields::prime::Prime;

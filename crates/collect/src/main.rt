@@ -9,6 +9,9 @@
 //     deliver 0 5 1
 //     strike 0
 //     read
+
+#![tactic(auto)]
+
 use answers::answer_all;
 use lines::{Line, parse_line};
 use std::alloc::Global;

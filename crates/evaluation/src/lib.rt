@@ -1,4 +1,7 @@
 // The evaluation code over any field: words are the values of a polynomial, and a decoder finds the polynomial again.
+
+#![tactic(auto)]
+
 mod decode;
 mod equations;
 mod evaluation;

@@ -1,4 +1,7 @@
 // Fields: arithmetic on numbers of 16 bits, known above this crate by its laws alone.
+
+#![tactic(auto)]
+
 pub mod fault;
 pub mod field;
 pub mod gf256;

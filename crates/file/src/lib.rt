@@ -1,4 +1,7 @@
 // The file: strips, and a trailer that says what they are strips of.
+
+#![tactic(auto)]
+
 pub mod choice;
 pub mod fault;
 pub mod heading;

@@ -1,4 +1,7 @@
 // Layers over any code, which are codes again: trimmed messages and scaled words.
+
+#![tactic(auto)]
+
 mod scaled;
 mod scaling;
 mod trimmed;

@@ -1,4 +1,7 @@
 // Polynomials and linear equations over any field, on lent numbers.
+
+#![tactic(auto)]
+
 pub mod divide;
 pub mod fault;
 mod numbers;

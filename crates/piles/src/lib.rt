@@ -1,4 +1,7 @@
 // That every code keeps the code meaning, layers piled on it to any height included.
+
+#![tactic(auto)]
+
 ghost use Rattle.piles.specs.Keeping.{CodesKeep};
 
 // The theorem on the codes: when each is fit, and with which distance it keeps the code meaning.

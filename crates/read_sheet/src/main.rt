@@ -6,6 +6,9 @@
 //     row 1 1 0
 //
 // A file that is refused, or is longer than 65,535 bytes, gets one line only, as `refused 22 place 0 row 0`.
+
+#![tactic(auto)]
+
 use file::fault::FileFault;
 use file::received::{Received, receive};
 use std::io;

@@ -1,4 +1,7 @@
 // The repetition code: a word is one number, repeated.
+
+#![tactic(auto)]
+
 mod majority;
 mod repetition;
 

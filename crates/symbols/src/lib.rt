@@ -3,6 +3,9 @@
 // A block of n codewords, the first of them the coefficient of the highest power, has its r check numbers chosen so that the
 // polynomial vanishes at g^b, g^(b+1) and so on. Its points are g^(n-1) down to g^0, its dimension is n - r, and its multipliers
 // follow from the points and b.
+
+#![tactic(auto)]
+
 pub mod fault;
 mod multipliers;
 mod powers;

@@ -1,4 +1,7 @@
 // Worked examples of the codes and of whole runs, as tests over both fields.
+
+#![tactic(auto)]
+
 #[cfg(test)]
 mod decodings;
 #[cfg(test)]

@@ -24,6 +24,9 @@
 //
 // A real symbol is a block of three lines, `symbol`, `codewords` and `received`, and a row of its own. What is not
 // understood, what lacks its settings, and a row that compares nothing count as differing.
+
+#![tactic(auto)]
+
 use bench::Bench;
 use lines::parse_line;
 use std::io;

@@ -6,6 +6,9 @@
 //
 // The word of a message is the values, at the points, of the polynomial with these coefficients, the constant first.
 // A line that is not understood gets one line that says so, and the next line is read.
+
+#![tactic(auto)]
+
 ghost use Rattle.std.specs.Prelude.{◌≡◌, IfOk};
 ghost use Rattle.linear.specs.Operations.{operations};
 ghost use Rattle.linear.specs.Polynomials.{word};

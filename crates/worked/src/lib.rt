@@ -1,4 +1,7 @@
 // The worked examples, as one theorem over the definitions that the contracts use.
+
+#![tactic(auto)]
+
 ghost use Rattle.std.specs.Prelude.{◌≡◌, length};
 ghost use Rattle.worked.specs.Examples.{examples, ExamplesHold};
 

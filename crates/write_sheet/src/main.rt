@@ -6,6 +6,9 @@
 //     row 1 1 0
 //
 // What is not understood or refused gets one line on standard error, and no file is written.
+
+#![tactic(auto)]
+
 ghost use Rattle.std.specs.Prelude.{◌≡◌, replicate};
 
 use file::fault::FileFault;

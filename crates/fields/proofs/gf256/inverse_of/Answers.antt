@@ -16,8 +16,8 @@ loop-i-preserved c =
     let s = c.loop-i.square in
     let p = c.loop-i.powers in
     let inv = c.loop-i.invariant in
-    let square = c.multiply-below-square.ensures in
-    let powers = c.multiply-below-powers.ensures ∙ ap (product p) square in
+    let square = c.multiply_below-square.ensures in
+    let powers = c.multiply_below-powers.ensures ∙ ap (product p) square in
     let small = times_below s s inv.0 inv.0 in (
       subst (λ x. x < 256) (sym square) small,
       subst (λ x. x < 256) (sym powers) (times_below p (product s s) inv.1 small),
@@ -28,5 +28,5 @@ pub returns : goal.returns
 returns c =
     let s = c.loop-i.square in
     let p = c.loop-i.powers in
-    let none : c.loop-i.-i ≡ 0 = omega arith in
+    let none : c.loop-i._i ≡ 0 = omega arith in
     sym (powered-none s p) ∙ sym (ap (λ n. powered n s p) none) ∙ c.loop-i.invariant.2 ∙ power-is c.args.a c.requires.below c.requires.nonzero

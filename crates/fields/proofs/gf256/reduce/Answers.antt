@@ -6,5 +6,5 @@ use Rattle.fields.proofs.gf256.reduce.Goals as goal
 pub returns : goal.returns
 returns c =
     let x = c.args.x in
-    let is = c.reduce-by.ensures in
+    let is = c.reduce_by.ensures in
     record { value = is; remains = subst (Remains x) (sym is) (remains x (omega arith)) }
