@@ -3,12 +3,12 @@ use Rattle.fields.specs.Binary.{product}
 use Rattle.fields.specs.Bytes.{powered, powered-none, powered-step, power-is, times_below}
 use Rattle.fields.proofs.gf256.inverse_of.Goals as goal
 
-pub multiply-below-powers-requires : goal.multiply-below-powers-requires
-multiply-below-powers-requires c =
+pub multiply_below-powers-requires : goal.multiply_below-powers-requires
+multiply_below-powers-requires c =
     let s = c.loop-i.square in
     record {
       first = c.loop-i.invariant.1;
-      second = subst (λ x. x < 256) (sym c.multiply-below-square.ensures) (times_below s s c.loop-i.invariant.0 c.loop-i.invariant.0);
+      second = subst (λ x. x < 256) (sym c.multiply_below-square.ensures) (times_below s s c.loop-i.invariant.0 c.loop-i.invariant.0);
     }
 
 pub loop-i-preserved : goal.loop-i-preserved
@@ -21,7 +21,7 @@ loop-i-preserved c =
     let small = times_below s s inv.0 inv.0 in (
       subst (λ x. x < 256) (sym square) small,
       subst (λ x. x < 256) (sym powers) (times_below p (product s s) inv.1 small),
-      ap₂ (powered (c.loop-i.-i - 1)) square powers ∙ powered-step c.loop-i.-i s p (omega arith) ∙ inv.2,
+      ap₂ (powered (c.loop-i._i - 1)) square powers ∙ powered-step c.loop-i._i s p (omega arith) ∙ inv.2,
     )
 
 pub returns : goal.returns

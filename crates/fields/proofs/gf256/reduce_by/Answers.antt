@@ -3,8 +3,8 @@ use Rattle.fields.specs.Binary.{remainder}
 use Rattle.fields.proofs.Division.{term_below, remainder-step}
 use Rattle.fields.proofs.gf256.reduce_by.Goals as goal
 
-pub overflow-mul-left : goal.overflow-mul-left
-overflow-mul-left c =
+pub overflow_mul-left : goal.overflow_mul-left
+overflow_mul-left c =
     record { fits = term_below _ 9 c.args.polynomial (c.loop-i.i - 1) (mod-lt (c.loop-i.left / 2 ^ (8 + (c.loop-i.i - 1))) (omega arith)) c.requires (omega arith) }
 
 pub loop-i-preserved : goal.loop-i-preserved
