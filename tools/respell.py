@@ -123,13 +123,12 @@ def main(argv):
             if w in here:
                 return here[w]
             before = t[m.start() - 1 : m.start()]
+            if w in turned and re.search(r"(?<![\w.])[A-Z]\w*\.$", t[: m.start()][-80:]):
+                return turned[w]
             if w in turned and w in fields and (before == "." or re.match(r"\s*=(?!=)", t[m.end() : m.end() + 3])):
                 return turned[w]
             return w
 
-        out = []
-        for line in t.split("\n"):
-            out.append(line)
         new_text = TOKEN.sub(swap, t)
         if new_text != t and "--list" not in argv:
             with open(p, "w", encoding="utf-8") as f:

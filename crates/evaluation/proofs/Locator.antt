@@ -77,7 +77,7 @@ module _ (F : Arithmetic) (L : TotalLaws F) where
   pub key : (p s c xs ys : List ℕ) (t : ℕ) → length s ≡ suc t → Below q p → Distinct xs → Below q xs → length xs ≡ length ys → Meets F p s xs ys
       → length p + t ≤ length xs → length c + t ≤ length p → differ (word F xs c) ys ≤ t → Zeros (added F p (product F c s))
   key p s c xs ys t ls hp ds hx e m lp lc near =
-      Roots.roots-bound F L (hits F c xs ys) (added F p (product F c s)) (hits-distinct c xs ys ds) (hits-all (λ x. x < q) c xs ys hx)
+      Roots.roots_bound F L (hits F c xs ys) (added F p (product F c s)) (hits-distinct c xs ys ds) (hits-all (λ x. x < q) c xs ys hx)
       (Values.added-below F L p (product F c s) hp (Values.product-below F L c s)) (hits-roots p s c xs ys m)
       (omega (arith, Values.length-added F L p (product F c s), Values.length-product F L c s t ls, hits-count c xs ys e))
 
@@ -116,7 +116,7 @@ module _ (F : Arithmetic) (L : TotalLaws F) where
       let same : u ⊗ v ≡ y ⊗ v = Algebra.cancel F L r (u ⊗ v) (y ⊗ v) (L.times_below u v) (L.times_below y v) (whole ∙ sym e) in
       let none : (u ⊕ neg y) ⊗ v ≡ 0 =
       Algebra.spread-right F L u (neg y) v ∙ ap (λ w. w ⊕ neg y ⊗ v) same ∙ sym (Algebra.spread-right F L y (neg y) v) ∙ ap (λ w. w ⊗ v) (L.plus_opposite y) ∙ Algebra.zero-times F L v in
-      Algebra.no-divisor F L (u ⊕ neg y) v (L.plus_below u (neg y)) (λ d. ne (Algebra.same_from F L u y hu hy d)) hv none
+      Algebra.no_divisor F L (u ⊕ neg y) v (L.plus_below u (neg y)) (λ d. ne (Algebra.same_from F L u y hu hy d)) hv none
 
   misses-roots : (p s c xs ys : List ℕ) → Below q ys → Divides F p s c → Meets F p s xs ys → All (λ x. value F s x ≡ 0) (misses F c xs ys)
   misses-roots p s c [] ys hy z m = tt
@@ -133,7 +133,7 @@ module _ (F : Arithmetic) (L : TotalLaws F) where
   sound p s c xs ys t ls hs nz ds hx hy e m z =
       elim (dec_le (differ (word F xs c) ys) t) [
         | yes h ↦ h
-        | no h ↦ absurd (nz (Roots.roots-bound F L (misses F c xs ys) s (misses-distinct c xs ys ds) (misses-all (λ x. x < q) c xs ys hx) hs (misses-roots p s c xs ys hy z m)
+        | no h ↦ absurd (nz (Roots.roots_bound F L (misses F c xs ys) s (misses-distinct c xs ys ds) (misses-all (λ x. x < q) c xs ys hx) hs (misses-roots p s c xs ys hy z m)
             (omega (arith, misses-count c xs ys e, h))))
       ]
 
@@ -148,7 +148,7 @@ module _ (F : Arithmetic) (L : TotalLaws F) where
 
   -- Q1 is zero only together with Q0
   pub both_zero : (p s xs ys : List ℕ) → Below q p → Distinct xs → Below q xs → length xs ≡ length ys → Meets F p s xs ys → length p ≤ length xs → Zeros s → Zeros p
-  both_zero p s xs ys hp ds hx e m le z = Roots.roots-bound F L xs p ds hx hp (no_values p s xs ys e z m) le
+  both_zero p s xs ys hp ds hx e m le z = Roots.roots_bound F L xs p ds hx hp (no_values p s xs ys e z m) le
 
   -- the equation's row times the unknowns is Q0(x) + y Q1(x)
   pub dot-powers : (c x : ℕ) (p : List ℕ) → dot F (powers F c x (length p)) p ≡ c ⊗ value F p x

@@ -43,19 +43,19 @@ module _ (F : Arithmetic) (L : TotalLaws F) where
 
   -- zeros at the end of a factor change no coefficient
   pub product-front : (k : ℕ) (p s : List ℕ) → Zeros (drop k p) → Same (product F p s) (product F (take k p) s)
-  product-front zero p s z i = get_or-zeros (product F p s) i (Coefficients.zeros-product F L p s z)
+  product-front zero p s z i = get_or-zeros (product F p s) i (Coefficients.zeros_product F L p s z)
   product-front (suc k) [] s z i = refl
   product-front (suc k) (a ∷ p) s z zero =
-      Coefficients.getD-sum F L (scaled F a s) (0 ∷ product F p s) 0 (Values.scaled-below F L a s) (Algebra.zero-below F L, Values.product-below F L p s)
-      ∙ sym (Coefficients.getD-sum F L (scaled F a s) (0 ∷ product F (take k p) s) 0 (Values.scaled-below F L a s) (Algebra.zero-below F L, Values.product-below F L (take k p) s))
+      Coefficients.get_or-sum F L (scaled F a s) (0 ∷ product F p s) 0 (Values.scaled-below F L a s) (Algebra.zero-below F L, Values.product-below F L p s)
+      ∙ sym (Coefficients.get_or-sum F L (scaled F a s) (0 ∷ product F (take k p) s) 0 (Values.scaled-below F L a s) (Algebra.zero-below F L, Values.product-below F L (take k p) s))
   product-front (suc k) (a ∷ p) s z (suc i) =
-      Coefficients.getD-sum F L (scaled F a s) (0 ∷ product F p s) (suc i) (Values.scaled-below F L a s) (Algebra.zero-below F L, Values.product-below F L p s)
+      Coefficients.get_or-sum F L (scaled F a s) (0 ∷ product F p s) (suc i) (Values.scaled-below F L a s) (Algebra.zero-below F L, Values.product-below F L p s)
       ∙ ap (λ w. get_or (scaled F a s) (suc i) 0 ⊕ w) (product-front k p s z i)
-      ∙ sym (Coefficients.getD-sum F L (scaled F a s) (0 ∷ product F (take k p) s) (suc i) (Values.scaled-below F L a s) (Algebra.zero-below F L, Values.product-below F L (take k p) s))
+      ∙ sym (Coefficients.get_or-sum F L (scaled F a s) (0 ∷ product F (take k p) s) (suc i) (Values.scaled-below F L a s) (Algebra.zero-below F L, Values.product-below F L (take k p) s))
 
   -- coefficient i of -c s
   negated : (c s : List ℕ) (i : ℕ) → get_or (product F (scaled F (neg 1) c) s) i 0 ≡ neg 1 ⊗ get_or (product F c s) i 0
-  negated c s i = ap (λ t. get_or t i 0) (Coefficients.product-scaled F L (neg 1) c s) ∙ Coefficients.getD-scaled F L (neg 1) (product F c s) i
+  negated c s i = ap (λ t. get_or t i 0) (Coefficients.product-scaled F L (neg 1) c s) ∙ Coefficients.get_or-scaled F L (neg 1) (product F c s) i
 
   get_or-below : (p : List ℕ) (i : ℕ) → Below q p → get_or p i 0 < q
   get_or-below [] i h = Algebra.zero-below F L
@@ -72,7 +72,7 @@ module _ (F : Arithmetic) (L : TotalLaws F) where
       let x = get_or (product F c s) i 0 in
       let hx : x < q = get_or-below (product F c s) i (Values.product-below F L c s) in
       let at : get_or p i 0 ≡ x = d.whole i ∙ Coefficients.added-zeros F L (product F Q s) R i (Values.product-below F L Q s) zr ∙ product-front k Q s zq i in
-      sym (Coefficients.getD-sum F L p (product F (scaled F (neg 1) c) s) i hp (Values.product-below F L (scaled F (neg 1) c) s)
+      sym (Coefficients.get_or-sum F L p (product F (scaled F (neg 1) c) s) i hp (Values.product-below F L (scaled F (neg 1) c) s)
       ∙ ap₂ ◌⊕◌ at (negated c s i ∙ minus_one x hx) ∙ L.plus_opposite x))
 
   -- conversely the quotient and the remainder of what has a -Q0 / Q1
@@ -94,7 +94,7 @@ module _ (F : Arithmetic) (L : TotalLaws F) where
       let y = get_or p i 0 in
       let hx : x < q = get_or-below (product F c s) i (Values.product-below F L c s) in
       let hy : y < q = get_or-below p i hp in
-      let sum : y ⊕ x ≡ 0 = sym (Coefficients.getD-sum F L p (product F c s) i hp (Values.product-below F L c s)) ∙ get_or-zeros (added F p (product F c s)) i z in
+      let sum : y ⊕ x ≡ 0 = sym (Coefficients.get_or-sum F L p (product F c s) i hp (Values.product-below F L c s)) ∙ get_or-zeros (added F p (product F c s)) i z in
       let is : y ≡ neg x = Algebra.cancel F L x y (neg x) hy (L.opposite_below x) (L.plus_comm x y ∙ sum ∙ sym (L.plus_opposite x)) in
       is ∙ sym (minus_one x hx) ∙ sym (negated c s i) ∙ ap (λ t. get_or (product F t s) i 0) (sym (take_at front zs k front_long))
       ∙ sym (product-front k A s tail i) ∙ sym (Coefficients.added-zeros F L (product F A s) B i (Values.product-below F L A s) (zeros_replicate n))) in

@@ -37,7 +37,7 @@ proper_sound F L n k points p = record {
   word_long = λ m h. length-map points (value (total F) m) ∙ p.counted;
   word_below = λ m h. all_of (λ x. x < F.order) (value (total F) m) (Roots.value-below (total F) (total-laws F L) m) points;
   apart = λ m m' h h' ne.
-      let far = Distance.words-apart (total F) (total-laws F L) m m' points k h.long h'.long h.below h'.below p.distinct p.below ne in
+      let far = Distance.words_apart (total F) (total-laws F L) m m' points k h.long h'.long h.below h'.below p.distinct p.below ne in
       omega (arith, p.counted, p.high);
 }
 

@@ -51,8 +51,8 @@ module _ (F : Arithmetic) (L : TotalLaws F) where
   pub same-message : (p s points : List ℕ) → length p ≡ length s → Below F.order p → Below F.order s → Distinct points → Below F.order points → length p ≤ length (filter (agree p s) points) → p ≡ s
   same-message p s points e hp hs ds hx le =
       let kept = filter (agree p s) points in
-      Values.same-from-minus F L p s e hp hs
-      (Roots.roots-bound F L kept (Values.minus F L p s) (kept-distinct (agree p s) points ds) (kept-all (λ x. x < F.order) (agree p s) points hx)
+      Values.same-from_minus F L p s e hp hs
+      (Roots.roots_bound F L kept (Values.minus F L p s) (kept-distinct (agree p s) points ds) (kept-all (λ x. x < F.order) (agree p s) points hx)
       (Values.added-below F L p _ hp (Values.scaled-below F L (F.opposite 1) s)) (roots_of p s kept (kept-passes (agree p s) points))
       (omega (arith, Values.length-added F L p (scaled F (F.opposite 1) s), length-map s (F.times (F.opposite 1)))))
 

@@ -46,7 +46,7 @@ lead-highest lead l s z n = go (dec_le l lead)
     go (yes le) = le
     go (no gt) =
         let e : lead + 1 + (l - (lead + 1)) ≡ l = omega arith in
-        absurd (n (ap (λ k. get_or s k 0) (sym e) ∙ sym (get_or-drop (lead + 1) s (l - (lead + 1)) 0) ∙ Coefficients.getD-zeros (drop (lead + 1) s) (l - (lead + 1)) z))
+        absurd (n (ap (λ k. get_or s k 0) (sym e) ∙ sym (get_or-drop (lead + 1) s (l - (lead + 1)) 0) ∙ Coefficients.get_or-zeros (drop (lead + 1) s) (l - (lead + 1)) z))
 
 -- zeros from l on are zeros from any later place on
 pub zeros_later : (l m : ℕ) (r : List ℕ) → l ≤ m → Zeros (drop l r) → Zeros (drop m r)
@@ -88,17 +88,17 @@ module _ (F : Arithmetic) (L : TotalLaws F) where
       let r_last : Zeros (drop (1 + lead) r) = zeros_later lead (1 + lead) r (omega arith) short in
       let t-short : Zeros (drop lead (drop 1 t)) =
       subst Zeros (sym (drop-drop lead 1 t ∙ drop-added F (1 + lead) (scaled F b s) r ∙ ap (λ x. added F x (drop (1 + lead) r)) (drop-map (F.times b) (1 + lead) s)))
-      (Coefficients.zeros-added F L (scaled F b (drop (1 + lead) s)) (drop (1 + lead) r) (Coefficients.zeros-scaled F L b (drop (1 + lead) s) s-last) r_last) in
+      (Coefficients.zeros_added F L (scaled F b (drop (1 + lead) s)) (drop (1 + lead) r) (Coefficients.zeros_scaled F L b (drop (1 + lead) s) s-last) r_last) in
       let rest : Zeros a × Zeros (drop 1 t) = zero-alone lead s S a (drop 1 t) ha.1 (All-drop (λ x. x < q) 1 t t-below) t-short under.0 in
       let t-zeros : Zeros t = under.1 rest.1 in
-      let r-lead : get_or r lead 0 ≡ 0 = ap (λ k. get_or r k 0) zero_more ∙ sym (get_or-drop lead r 0 0) ∙ Coefficients.getD-zeros (drop lead r) 0 short in
+      let r-lead : get_or r lead 0 ≡ 0 = ap (λ k. get_or r k 0) zero_more ∙ sym (get_or-drop lead r 0 0) ∙ Coefficients.get_or-zeros (drop lead r) 0 short in
       let s-lead : get_or s lead 0 < q = All-get_or (λ x. x < q) s lead 0 S.highest.0 S.below in
       let here : b ⊗ get_or s lead 0 ≡ 0 =
       sym (L.plus_zero (b ⊗ get_or s lead 0) (L.times_below b (get_or s lead 0)))
-      ∙ ap₂ ◌⊕◌ (sym (Coefficients.getD-scaled F L b s lead)) (sym r-lead)
-      ∙ sym (Coefficients.getD-sum F L (scaled F b s) r lead (Values.scaled-below F L b s) hr) ∙ Coefficients.getD-zeros t lead t-zeros in
-      let b-zero : b ≡ 0 = Algebra.no-divisor F L (get_or s lead 0) b s-lead S.highest.1 ha.0 (L.times_comm (get_or s lead 0) b ∙ here) in
-      ((b-zero, rest.0), Coefficients.zeros-right F L (scaled F b s) r hr (Coefficients.zeros-by-zero F L b s b-zero) t-zeros)
+      ∙ ap₂ ◌⊕◌ (sym (Coefficients.get_or-scaled F L b s lead)) (sym r-lead)
+      ∙ sym (Coefficients.get_or-sum F L (scaled F b s) r lead (Values.scaled-below F L b s) hr) ∙ Coefficients.get_or-zeros t lead t-zeros in
+      let b-zero : b ≡ 0 = Algebra.no_divisor F L (get_or s lead 0) b s-lead S.highest.1 ha.0 (L.times_comm (get_or s lead 0) b ∙ here) in
+      ((b-zero, rest.0), Coefficients.zeros_right F L (scaled F b s) r hr (Coefficients.zeros_by_zero F L b s b-zero) t-zeros)
     where
       zero_more : lead ≡ lead + 0
       zero_more = omega arith
@@ -117,12 +117,12 @@ module _ (F : Arithmetic) (L : TotalLaws F) where
       let y-below : Below q y = Values.added-below F L b (scaled F n d) hb (Values.scaled-below F L n d) in
       let y-short : Zeros (drop lead y) =
       subst Zeros (sym (drop-added F lead b (scaled F n d) ∙ ap (added F (drop lead b)) (drop-map (F.times n) lead d)))
-      (Coefficients.zeros-added F L (drop lead b) (scaled F n (drop lead d)) (shorter-lead lead s b S sb) (Coefficients.zeros-scaled F L n (drop lead d) (shorter-lead lead s d S sd))) in
+      (Coefficients.zeros_added F L (drop lead b) (scaled F n (drop lead d)) (shorter-lead lead s b S sb) (Coefficients.zeros_scaled F L n (drop lead d) (shorter-lead lead s d S sd))) in
       let cd-below : Below q (added F (product F c s) d) = Values.added-below F L (product F c s) d (Values.product-below F L c s) hd in
       let z : Zeros (added F (product F x s) y) =
-      subst Zeros (sym (Coefficients.minus-divided F L a b c d s)) (Coefficients.zeros-minus F L (added F (product F a s) b) (added F (product F c s) d) cd-below (λ k. sym (pa k) ∙ pc k)) in
+      subst Zeros (sym (Coefficients.minus-divided F L a b c d s)) (Coefficients.zeros_minus F L (added F (product F a s) b) (added F (product F c s) d) cd-below (λ k. sym (pa k) ∙ pc k)) in
       let both : Zeros x × Zeros y = zero-alone lead s S x y x_below y-below y-short z in
-      (Values.same-from-minus F L a c ea ha hc both.0, Values.same-from-minus F L b d eb hb hd both.1)
+      (Values.same-from_minus F L a c ea ha hc both.0, Values.same-from_minus F L b d eb hb hd both.1)
 
   -- x - (x / a) a = 0
   quotient-takes : (x a : ℕ) → x < q → a < q → a ≢ 0 → x ⊕ neg (x ⊗ inv a) ⊗ a ≡ 0
@@ -134,7 +134,7 @@ module _ (F : Arithmetic) (L : TotalLaws F) where
   pub down_start : (lead i : ℕ) (p s c : List ℕ) → length p ≤ i + lead → Below q p → c ≡ replicate (length c) 0 → Down F lead p s i p c
   down_start lead i p s c h hp blank =
       let z : Zeros c = subst Zeros (sym blank) (zeros_replicate (length c)) in
-      let zp : Zeros (product F (drop i c) s) = Coefficients.zeros-product F L (drop i c) s (All-drop (λ x. x ≡ 0) i c z) in
+      let zp : Zeros (product F (drop i c) s) = Coefficients.zeros_product F L (drop i c) s (All-drop (λ x. x ≡ 0) i c z) in
       record {
         untouched = refl;
         cleared = subst Zeros (sym (drop_all (i + lead) p h)) tt;
@@ -214,7 +214,7 @@ module _ (F : Arithmetic) (L : TotalLaws F) where
         turn_here k
         ∙ sym (ap (λ t. get_or t k 0) turn_sum
         ∙ Coefficients.added-zeros F L ((0 ⊕ get_or d j 0) ∷ m) (added F (scaled F y s) (scaled F (neg y) (take w s))) k (L.plus_below 0 (get_or d j 0), m-below)
-        (Coefficients.zeros-opposite F L y w s S.highest.2))
+        (Coefficients.zeros_opposite F L y w s S.highest.2))
 
     pub down_more : Down F lead p s j (put_mid j (lead + 1) d (reduced F (take (lead + 1) (drop j d)) y (take (lead + 1) s))) (set c j y)
     down_more =

@@ -64,7 +64,7 @@ module _ (F : Arithmetic) (L : TotalLaws F) where
 
   -- what solves a multiple of a row by a number with an inverse solves the row
   pub solves-scaled : (p u : List ℕ) (b : ℕ) → b < q → b ≢ 0 → dot F (scaled F b p) u ≡ 0 → dot F p u ≡ 0
-  solves-scaled p u b hb nb e = Algebra.no-divisor F L b (dot F p u) hb nb (dot-below p u) (sym (dot-scaled b p u) ∙ e)
+  solves-scaled p u b hb nb e = Algebra.no_divisor F L b (dot F p u) hb nb (dot-below p u) (sym (dot-scaled b p u) ∙ e)
 
   pub reduced-below : (t p : List ℕ) (b : ℕ) → length p ≡ length t → Below q (reduced F t b p)
   reduced-below [] [] b e = tt
@@ -121,5 +121,5 @@ module _ (F : Arithmetic) (L : TotalLaws F) where
         let xq : x < q = All-get_or (λ v. v < q) (row w (suc k) s) c 0 (omega (arith, length-row w (suc k) s other_ends)) (h (suc k) within) in
         let at : get_or ys c 0 ≡ 0 ⊕ neg 1 ⊗ x =
         ap (λ r. get_or r c 0) is ∙ get_or-added F (neg 1) (row w 0 s) (row w (suc k) s) c same-long (omega (arith, length-row w 0 s first_ends)) ∙ ap (λ v. v ⊕ neg 1 ⊗ x) z in
-        nz (Algebra.no-divisor F L (neg 1) x (L.opposite_below 1) neg_one xq
+        nz (Algebra.no_divisor F L (neg 1) x (L.opposite_below 1) neg_one xq
         (sym (Algebra.zero-plus F L (neg 1 ⊗ x) (L.times_below (neg 1) x)) ∙ sym at ∙ sym (get_or_append_left ys (drop w s) 0 c (omega (arith, ys-long))) ∙ e))

@@ -76,7 +76,7 @@ module _ (F : Arithmetic) (L : TotalLaws F) where
       let d = x ⊕ neg r in
       let t = value F (tails r p) x in
       let dt : d ⊗ t ≡ 0 = sym (Algebra.zero-plus F L (d ⊗ t) (L.times_below d t)) ∙ ap (λ w. w ⊕ d ⊗ t) (sym e) ∙ sym (factor a r x p) ∙ z.0 in (
-        Algebra.no-divisor F L d t (L.plus_below x (neg r)) (λ w. n.0 (Algebra.same_from F L x r h.0 hr w)) (value-below (tails r p) x) dt,
+        Algebra.no_divisor F L d t (L.plus_below x (neg r)) (λ w. n.0 (Algebra.same_from F L x r h.0 hr w)) (value-below (tails r p) x) dt,
         others a r p rs hr e n.1 h.1 z.1,
       )
 

@@ -13,8 +13,8 @@ use Rattle.linear.proofs.Kernel.{dot-zeros}
 use Rattle.linear.proofs.Elimination.{Column, column_made, under_zero, zeros_replicate, rest-grid, step_solves}
 use Rattle.linear.proofs.solve.+eliminate.Goals as goal
 
-pub returns-then-not-place-pivot : goal.returns-then-not-place-pivot
-returns-then-not-place-pivot g t c =
+pub returns-then-not-place_pivot : goal.returns-then-not-place_pivot
+returns-then-not-place_pivot g t c =
     let f = c.args.f.now in
     let F = operations g.F.Field f in
     let L : TotalLaws F = lawful g.F.Field f (g.met.F.Field.sizes f) (g.met.F.Field.sums f) (g.met.F.Field.products f) (g.met.F.Field.inverses f) in
@@ -30,17 +30,17 @@ returns-then-not-place-pivot g t c =
     record {
       solves = λ i l.
           let e : length (row w i s) ≡ w = length-row w i s (omega (arith, row_ends i n w l)) in
-          ap (dot F (drop k (row w i s))) u ∙ under_zero F L k 1 (row w i s) (drop (k + 1) z) (omega arith) (c.place-pivot.ensures.none c.if-not-place-pivot.true i l) (dot-zeros F L (drop (k + 1) (row w i s)) (drop (k + 1) z) zz);
+          ap (dot F (drop k (row w i s))) u ∙ under_zero F L k 1 (row w i s) (drop (k + 1) z) (omega arith) (c.place_pivot.ensures.none c.if-not-place_pivot.true i l) (dot-zeros F L (drop (k + 1) (row w i s)) (drop (k + 1) z) zz);
       nonzero = λ h.
           let o : ◌≡◌ {A = ℕ} 1 0 = (subst Zeros u h).0 in
           omega arith;
       below = subst (Below F.order) (sym u) (one_below F L, All-weaker (λ x. x ≡ 0) (λ x. x < F.order) (λ x e. subst (λ (y : ℕ). y < F.order) (sym e) (zero-below F L)) (drop (k + 1) z) zz);
     }
 
-pub split-at-mut-first-requires : goal.split-at-mut-first-requires
-split-at-mut-first-requires g t c =
-    let some : 0 < c.args.count = c.place-pivot.ensures.some c.if-not-place-pivot.false in
-    let long : length c.place-pivot.new.rows ≡ length c.args.rows.now = c.place-pivot.auto.rows in
+pub split_at_mut-first-requires : goal.split_at_mut-first-requires
+split_at_mut-first-requires g t c =
+    let some : 0 < c.args.count = c.place_pivot.ensures.some c.if-not-place_pivot.false in
+    let long : length c.place_pivot.new.rows ≡ length c.args.rows.now = c.place_pivot.auto.rows in
     omega (arith, row_ends 0 c.args.count c.args.w some)
 
 pub unreachable-requires : goal.unreachable-requires
@@ -49,29 +49,29 @@ unreachable-requires g t c =
     let F = operations g.F.Field f in
     let w = c.args.w in
     let k = c.args.c in
-    let came : c.place-pivot.result ≡ true = c.if-not-place-pivot.false in
-    let some : 0 < c.args.count = c.place-pivot.ensures.some came in
-    let s = c.place-pivot.new.rows in
-    let top = c.split-at-mut-first.result.0.now in
-    let rest = c.split-at-mut-first.result.1.now in
-    let value : s ≡ top ++ rest = c.split-at-mut-first.ensures.value in
-    let wide : length top ≡ w = c.split-at-mut-first.ensures.front-len in
+    let came : c.place_pivot.result ≡ true = c.if-not-place_pivot.false in
+    let some : 0 < c.args.count = c.place_pivot.ensures.some came in
+    let s = c.place_pivot.new.rows in
+    let top = c.split_at_mut-first.result.0.now in
+    let rest = c.split_at_mut-first.result.1.now in
+    let value : s ≡ top ++ rest = c.split_at_mut-first.ensures.value in
+    let wide : length top ≡ w = c.split_at_mut-first.ensures.front_len in
     let here : get_or s k 0 ≡ get_or top k 0 = ap (λ l. get_or l k 0) value ∙ get_or_append_left top rest 0 k (omega arith) in
-    let grid : Below F.order (row w 0 s) = c.place-pivot.ensures.grid came 0 some in
+    let grid : Below F.order (row w 0 s) = c.place_pivot.ensures.grid came 0 some in
     let grid' : Below F.order top = subst (Below F.order) (ap (row w 0) value ∙ row_first w top rest wide) grid in
     let below : get_or top k 0 < F.order = All-get_or (λ x. x < F.order) top k 0 (omega arith) grid' in
-    c.place-pivot.ensures.lead came (here ∙ inverse-none (g.F.Field.arithmetic f) (get_or top k 0) c.in-default.ensures below)
+    c.place_pivot.ensures.lead came (here ∙ inverse-none (g.F.Field.arithmetic f) (get_or top k 0) c.in_default.ensures below)
 
-pub clear-column-requires : goal.clear-column-requires
-clear-column-requires g t c =
-    let some : 0 < c.args.count = c.place-pivot.ensures.some c.if-not-place-pivot.false in
+pub clear_column-requires : goal.clear_column-requires
+clear_column-requires g t c =
+    let some : 0 < c.args.count = c.place_pivot.ensures.some c.if-not-place_pivot.false in
     let w = c.args.w in
     let n = c.args.count - 1 in
     let next : c.args.count ≡ suc n = omega arith in
     let times : c.args.count * w ≡ n * w + w = ap (λ m. m * w) next ∙ suc-mul n w in
-    let back : length c.split-at-mut-first.result.1.now + w ≡ length c.place-pivot.new.rows = c.split-at-mut-first.ensures.back_len in
-    let kept : length c.place-pivot.new.rows ≡ length c.args.rows.now = c.place-pivot.auto.rows in
-    record { size = omega (arith, c.requires.size); column = omega (arith, c.requires.column); wide = c.scale-row.auto.row ∙ c.split-at-mut-first.ensures.front-len }
+    let back : length c.split_at_mut-first.result.1.now + w ≡ length c.place_pivot.new.rows = c.split_at_mut-first.ensures.back_len in
+    let kept : length c.place_pivot.new.rows ≡ length c.args.rows.now = c.place_pivot.auto.rows in
+    record { size = omega (arith, c.requires.size); column = omega (arith, c.requires.column); wide = c.scale_row.auto.row ∙ c.split_at_mut-first.ensures.front_len }
 
 pub eliminate-requires : goal.eliminate-requires
 eliminate-requires g t c κs falls =
@@ -81,18 +81,18 @@ eliminate-requires g t c κs falls =
     let w = c.args.w in
     let k = c.args.c in
     let n = c.args.count - 1 in
-    let came : c.place-pivot.result ≡ true = c.if-not-place-pivot.false in
-    let s = c.place-pivot.new.rows in
-    let top = c.split-at-mut-first.result.0.now in
-    let rest = c.split-at-mut-first.result.1.now in
-    let rest' = c.clear-column.new.rows in
-    let value : s ≡ top ++ rest = c.split-at-mut-first.ensures.value in
+    let came : c.place_pivot.result ≡ true = c.if-not-place_pivot.false in
+    let s = c.place_pivot.new.rows in
+    let top = c.split_at_mut-first.result.0.now in
+    let rest = c.split_at_mut-first.result.1.now in
+    let rest' = c.clear_column.new.rows in
+    let value : s ≡ top ++ rest = c.split_at_mut-first.ensures.value in
     let within : k < w = omega (arith, c.requires.column) in
-    let made : Column F w k n top rest rest' × (c.scale-row.new.row ≡ scaled F (F.inverse (get_or top k 0)) top) =
-    column_made (g.F.Field.arithmetic f) w k c.args.count c.in-Some.inverse s top rest rest' c.scale-row.new.row within (c.place-pivot.ensures.some came) (c.requires.size ∙ sym c.place-pivot.auto.rows) value
-    c.split-at-mut-first.ensures.front-len c.clear-column.auto.rows (c.place-pivot.ensures.grid came) c.in-Some.ensures c.scale-row.ensures c.clear-column.ensures in
-    let some : 0 < c.args.count = c.place-pivot.ensures.some came in
-    let spare : length c.place-pivot.new.spare ≡ w = c.place-pivot.auto.spare ∙ c.requires.room in
+    let made : Column F w k n top rest rest' × (c.scale_row.new.row ≡ scaled F (F.inverse (get_or top k 0)) top) =
+    column_made (g.F.Field.arithmetic f) w k c.args.count c.in-Some.inverse s top rest rest' c.scale_row.new.row within (c.place_pivot.ensures.some came) (c.requires.size ∙ sym c.place_pivot.auto.rows) value
+    c.split_at_mut-first.ensures.front_len c.clear_column.auto.rows (c.place_pivot.ensures.grid came) c.in-Some.ensures c.scale_row.ensures c.clear_column.ensures in
+    let some : 0 < c.args.count = c.place_pivot.ensures.some came in
+    let spare : length c.place_pivot.new.spare ≡ w = c.place_pivot.auto.spare ∙ c.requires.room in
     (omega arith, (falls, (made.0.long', (omega (arith, c.requires.column), (spare, (c.requires.unknowns, rest-grid F L w k n top rest rest' made.0))))))
 
 pub returns : goal.returns
@@ -103,24 +103,24 @@ returns g t c =
     let w = c.args.w in
     let k = c.args.c in
     let n = c.args.count - 1 in
-    let came : c.place-pivot.result ≡ true = c.if-not-place-pivot.false in
-    let s = c.place-pivot.new.rows in
-    let top = c.split-at-mut-first.result.0.now in
-    let rest = c.split-at-mut-first.result.1.now in
-    let rest' = c.clear-column.new.rows in
-    let value : s ≡ top ++ rest = c.split-at-mut-first.ensures.value in
+    let came : c.place_pivot.result ≡ true = c.if-not-place_pivot.false in
+    let s = c.place_pivot.new.rows in
+    let top = c.split_at_mut-first.result.0.now in
+    let rest = c.split_at_mut-first.result.1.now in
+    let rest' = c.clear_column.new.rows in
+    let value : s ≡ top ++ rest = c.split_at_mut-first.ensures.value in
     let within : k < w = omega (arith, c.requires.column) in
-    let made : Column F w k n top rest rest' × (c.scale-row.new.row ≡ scaled F (F.inverse (get_or top k 0)) top) =
-    column_made (g.F.Field.arithmetic f) w k c.args.count c.in-Some.inverse s top rest rest' c.scale-row.new.row within (c.place-pivot.ensures.some came) (c.requires.size ∙ sym c.place-pivot.auto.rows) value
-    c.split-at-mut-first.ensures.front-len c.clear-column.auto.rows (c.place-pivot.ensures.grid came) c.in-Some.ensures c.scale-row.ensures c.clear-column.ensures in
-    let some : 0 < c.args.count = c.place-pivot.ensures.some came in
+    let made : Column F w k n top rest rest' × (c.scale_row.new.row ≡ scaled F (F.inverse (get_or top k 0)) top) =
+    column_made (g.F.Field.arithmetic f) w k c.args.count c.in-Some.inverse s top rest rest' c.scale_row.new.row within (c.place_pivot.ensures.some came) (c.requires.size ∙ sym c.place_pivot.auto.rows) value
+    c.split_at_mut-first.ensures.front_len c.clear_column.auto.rows (c.place_pivot.ensures.grid came) c.in-Some.ensures c.scale_row.ensures c.clear_column.ensures in
+    let some : 0 < c.args.count = c.place_pivot.ensures.some came in
     let v = c.eliminate.new.v in
     let v-long : length v ≡ w = c.eliminate.auto.v ∙ c.requires.unknowns in
-    let first = c.scale-row.new.row in
-    let first-long : length first ≡ w = c.scale-row.auto.row ∙ made.0.wide in
+    let first = c.scale_row.new.row in
+    let first-long : length first ≡ w = c.scale_row.auto.row ∙ made.0.wide in
     let part : take (w - (k + 1)) (drop (k + 1) first) ≡ drop (k + 1) first = take_all (w - (k + 1)) (drop (k + 1) first) (omega (arith, length-drop (k + 1) first)) in
     let part' : take (w - (k + 1)) (drop (k + 1) v) ≡ drop (k + 1) v = take_all (w - (k + 1)) (drop (k + 1) v) (omega (arith, length-drop (k + 1) v)) in
-    let sum : c.multiply-rows.result ≡ dot F (take (w - (k + 1)) (drop (k + 1) first)) (take (w - (k + 1)) (drop (k + 1) v)) = c.multiply-rows.ensures in
+    let sum : c.multiply_rows.result ≡ dot F (take (w - (k + 1)) (drop (k + 1) first)) (take (w - (k + 1)) (drop (k + 1) v)) = c.multiply_rows.ensures in
     let y : c.negate.result ≡ F.opposite (dot F (drop (k + 1) (scaled F (F.inverse (get_or top k 0)) top)) (drop (k + 1) v)) =
     c.negate.ensures ∙ ap F.opposite (sum ∙ ap₂ (dot F) (part ∙ ap (drop (k + 1)) made.1) part') in
     let u : drop k (set v k c.negate.result) ≡ F.opposite (dot F (drop (k + 1) (scaled F (F.inverse (get_or top k 0)) top)) (drop (k + 1) v)) ∷ drop (k + 1) v =
@@ -131,7 +131,7 @@ returns g t c =
     let whole : Solves F w k c.args.count s (drop k (set v k c.negate.result)) =
     λ i l. ap (λ r. dot F (drop k (row w i r)) (drop k (set v k c.negate.result))) value ∙ all i (omega arith) in
     record {
-      solves = c.place-pivot.ensures.keeps came (drop k (set v k c.negate.result)) whole;
+      solves = c.place_pivot.ensures.keeps came (drop k (set v k c.negate.result)) whole;
       nonzero = λ h. c.eliminate.ensures.nonzero (subst Zeros u h).1;
       below = subst (Below F.order) (sym u) (L.opposite_below _, c.eliminate.ensures.below);
     }

@@ -4,17 +4,17 @@ use Rattle.linear.specs.Equations.{row, reduced}
 use Rattle.linear.proofs.Grid.{row_ends, get_or-row, length-row, rows_more}
 use Rattle.linear.proofs.solve.clear_column.Goals as goal
 
-pub offset-bounds-rows-from : goal.offset-bounds-rows-from
-offset-bounds-rows-from g c = omega (arith, row_ends c.loop-k.k c.args.count c.args.w c.loop-k-test.true)
+pub offset_bounds-rows-from : goal.offset_bounds-rows-from
+offset_bounds-rows-from g c = omega (arith, row_ends c.loop-k.k c.args.count c.args.w c.loop-k-test.true)
 
 pub bounds-rows-from : goal.bounds-rows-from
 bounds-rows-from g c = omega (arith, row_ends c.loop-k.k c.args.count c.args.w c.loop-k-test.true)
 
-pub offset-bounds-rows-from-in-loop-k : goal.offset-bounds-rows-from-in-loop-k
-offset-bounds-rows-from-in-loop-k g c = omega (arith, row_ends c.loop-k.k c.args.count c.args.w c.loop-k-test.true)
+pub offset_bounds-rows-from-in-loop-k : goal.offset_bounds-rows-from-in-loop-k
+offset_bounds-rows-from-in-loop-k g c = omega (arith, row_ends c.loop-k.k c.args.count c.args.w c.loop-k-test.true)
 
-pub slice-bounds-subtract-row-end : goal.slice-bounds-subtract-row-end
-slice-bounds-subtract-row-end g c = omega (arith, row_ends c.loop-k.k c.args.count c.args.w c.loop-k-test.true)
+pub slice_bounds-subtract_row-end : goal.slice_bounds-subtract_row-end
+slice_bounds-subtract_row-end g c = omega (arith, row_ends c.loop-k.k c.args.count c.args.w c.loop-k-test.true)
 
 pub loop-k-preserved : goal.loop-k-preserved
 loop-k-preserved g c =
@@ -28,9 +28,9 @@ loop-k-preserved g c =
     let width : k * w + w - k * w ≡ w = omega arith in
     let here : row w k s ≡ row w k old = c.loop-k.invariant.1 k (omega arith) in
     let by : get_or s (k * w + c.args.c) 0 ≡ get_or (row w k old) c.args.c 0 = sym (get_or-row w k c.args.c s (omega arith)) ∙ ap (λ r. get_or r c.args.c 0) here in
-    let is : c.subtract-row.new.target ≡ G k =
-    c.subtract-row.ensures
+    let is : c.subtract_row.new.target ≡ G k =
+    c.subtract_row.ensures
     ∙ ap (λ t. reduced F t (get_or s (k * w + c.args.c) 0) c.args.pivot.now) (ap (λ n. take n (drop (k * w) s)) width ∙ here)
     ∙ ap (λ b. reduced F (row w k old) b c.args.pivot.now) by in
-    rows_more G w k (k * w + w - k * w) s old c.subtract-row.new.target width (omega arith)
-    (c.subtract-row.auto.target ∙ ap (λ n. length (take n (drop (k * w) s))) width ∙ length-row w k s (omega arith)) is c.loop-k.invariant.0 c.loop-k.invariant.1
+    rows_more G w k (k * w + w - k * w) s old c.subtract_row.new.target width (omega arith)
+    (c.subtract_row.auto.target ∙ ap (λ n. length (take n (drop (k * w) s))) width ∙ length-row w k s (omega arith)) is c.loop-k.invariant.0 c.loop-k.invariant.1

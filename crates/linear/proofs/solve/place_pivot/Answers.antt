@@ -10,21 +10,21 @@ use Rattle.linear.proofs.solve.place_pivot.Goals as goal
 
 pub returns-then-p-count : goal.returns-then-p-count
 returns-then-p-count g c = record {
-  none = λ _ i h. get_or-row c.args.w i c.args.c c.args.rows.now (omega arith) ∙ c.find-pivot-p.ensures.before i (omega arith);
+  none = λ _ i h. get_or-row c.args.w i c.args.c c.args.rows.now (omega arith) ∙ c.find_pivot-p.ensures.before i (omega arith);
   some = λ e. absurd (clash e);
   lead = λ e. absurd (clash e);
   grid = λ e. absurd (clash e);
   keeps = λ e. absurd (clash e);
 }
 
-pub offset-bounds-rows-p : goal.offset-bounds-rows-p
-offset-bounds-rows-p g c = omega (arith, row_ends c.find-pivot-p.result c.args.count c.args.w (omega arith))
+pub offset_bounds-rows-p : goal.offset_bounds-rows-p
+offset_bounds-rows-p g c = omega (arith, row_ends c.find_pivot-p.result c.args.count c.args.w (omega arith))
 
-pub slice-bounds-copy-from-slice-end : goal.slice-bounds-copy-from-slice-end
-slice-bounds-copy-from-slice-end g c = omega (arith, row_ends c.find-pivot-p.result c.args.count c.args.w (omega arith))
+pub slice_bounds-copy_from_slice-end : goal.slice_bounds-copy_from_slice-end
+slice_bounds-copy_from_slice-end g c = omega (arith, row_ends c.find_pivot-p.result c.args.count c.args.w (omega arith))
 
-pub slice-bounds-subtract-row-end : goal.slice-bounds-subtract-row-end
-slice-bounds-subtract-row-end g c = omega (arith, row_ends c.find-pivot-p.result c.args.count c.args.w (omega arith))
+pub slice_bounds-subtract_row-end : goal.slice_bounds-subtract_row-end
+slice_bounds-subtract_row-end g c = omega (arith, row_ends c.find_pivot-p.result c.args.count c.args.w (omega arith))
 
 pub returns-then-p-gt0 : goal.returns-then-p-gt0
 returns-then-p-gt0 g c =
@@ -33,24 +33,24 @@ returns-then-p-gt0 g c =
     let L : TotalLaws F = lawful g.F.Field f (g.met.F.Field.sizes f) (g.met.F.Field.sums f) (g.met.F.Field.products f) (g.met.F.Field.inverses f) in
     let w = c.args.w in
     let n = c.args.count in
-    let p = c.find-pivot-p.result in
+    let p = c.find_pivot-p.result in
     let s = c.args.rows.now in
-    let ys = c.subtract-row.new.target in
+    let ys = c.subtract_row.new.target in
     let k = p - 1 in
     let pk : p ≡ suc k = omega arith in
     let within : suc k < n = omega arith in
     let whole : w - 0 ≡ w = omega arith in
     let width : p * w + w - p * w ≡ w = omega arith in
     let t : drop (w - 0) s ≡ drop w s = ap (λ m. drop m s) whole in
-    let spare : c.copy-from-slice.new.self ≡ row w (suc k) s = c.copy-from-slice.ensures.after ∙ ap (λ m. take m (drop (p * w) s)) width ∙ ap (λ m. row w m s) pk in
+    let spare : c.copy_from_slice.new.self ≡ row w (suc k) s = c.copy_from_slice.ensures.after ∙ ap (λ m. take m (drop (p * w) s)) width ∙ ap (λ m. row w m s) pk in
     let front : take (w - 0) s ≡ row w 0 s = ap (λ m. take m s) whole ∙ sym (row_zero w s) in
-    let is : ys ≡ reduced F (row w 0 s) 1 (row w (suc k) s) = c.subtract-row.ensures ∙ ap₂ (λ a b. reduced F a 1 b) front spare in
+    let is : ys ≡ reduced F (row w 0 s) 1 (row w (suc k) s) = c.subtract_row.ensures ∙ ap₂ (λ a b. reduced F a 1 b) front spare in
     record {
       none = λ e. absurd (clash (sym e));
       some = λ _. omega arith;
       lead = λ _. subst (λ (r : List ℕ). get_or (ys ++ r) c.args.c 0 ≢ 0) (sym t) (raised_lead F L w c.args.c n k s ys c.requires.size within is c.requires.column c.requires.grid
-          (get_or-row w 0 c.args.c s c.requires.column ∙ c.find-pivot-p.ensures.before 0 c.if-p-gt0.true)
-          (λ z. c.find-pivot-p.ensures.found (omega arith) (sym (get_or-row w p c.args.c s c.requires.column) ∙ ap (λ m. get_or (row w m s) c.args.c 0) pk ∙ z)));
+          (get_or-row w 0 c.args.c s c.requires.column ∙ c.find_pivot-p.ensures.before 0 c.if-p-gt0.true)
+          (λ z. c.find_pivot-p.ensures.found (omega arith) (sym (get_or-row w p c.args.c s c.requires.column) ∙ ap (λ m. get_or (row w m s) c.args.c 0) pk ∙ z)));
       grid = λ _. subst (λ (r : List ℕ). Grid F w n (ys ++ r)) (sym t) (raised_grid F L w c.args.c n k s ys c.requires.size within is c.requires.grid);
       keeps = λ _ u h. raised_keeps F L w c.args.c n k s ys c.requires.size within is u (subst (λ (r : List ℕ). Solves F w c.args.c n (ys ++ r) u) t h);
     }
