@@ -1,3 +1,2 @@
 pub mod Trim
 pub mod Scale
-pub mod Multiply

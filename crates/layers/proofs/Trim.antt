@@ -17,6 +17,7 @@ use Rattle.codes.specs.declared.fault.FitnessFault.TheVariants.{Trim}
 use Rattle.layers.specs.Made.{Trims}
 use Rattle.codes.specs.Checks.{zero_check}
 use Rattle.layers.specs.Trimmed.{trimmed}
+use Rattle.layers.specs.TrimmedSound.{fit-below, padded, trimmed-sound}
 
 zeros_pass : (z : ℕ) → zero_check (replicate z 0) ≡ Ok tt
 zeros_pass zero = refl
@@ -41,32 +42,13 @@ zeros_fault (x ∷ xs) f e =
     test true = inl refl
     test false = inr refl
 
-below-zeros : (q z : ℕ) → 0 < q → Below q (replicate z 0)
-below-zeros q zero h = tt
-below-zeros q (suc z) h = (h, below-zeros q z h)
-
-split_fit : (f : Check FitnessFault) (k z : ℕ) → and_then f (unless (ltb z k) Trim (Ok tt)) ≡ Ok tt → (f ≡ Ok tt) × (z < k)
-split_fit (Ok u) k z e = (refl, grind (arith, nat_tests))
-split_fit (Err f) k z e = let z : ◌≡◌ {A = ℕ} 0 1 = cc in absurd (omega arith)
-
 join_fit : (f : Check FitnessFault) (k z : ℕ) → f ≡ Ok tt → z < k → and_then f (unless (ltb z k) Trim (Ok tt)) ≡ Ok tt
 join_fit (Ok u) k z e h = grind (arith, nat_tests)
 join_fit (Err f) k z e h = let z : ◌≡◌ {A = ℕ} 0 1 = cc in absurd (omega arith)
 
--- a fit trimmed code is over a fit code, and leaves a number of its messages
-pub fit-below : (z : ℕ) (M : Meaning) → (trimmed z M).fitness ≡ Ok tt → (M.fitness ≡ Ok tt) × (z < M.dimension)
-fit-below z M e = split_fit M.fitness M.dimension z e
-
 module _ (z : ℕ) (M : Meaning) (s : Sound M) (some : z < M.dimension) where
-  -- a message of the trimmed code, with the zeros, is one of the code below
-  padded : (m : List ℕ) → Message (trimmed z M) m → Message M (m ++ replicate z 0)
-  padded m h = record {
-    long = let l = h.long in simp (length-append, length-replicate) (omega arith);
-    below = All-append (λ x. x < M.order) m (replicate z 0) h.below (below-zeros M.order z (let l = s.order_low in omega arith));
-  }
-
   wider : (rs ms m : List ℕ) → Reached (trimmed z M) rs ms m → Reached M rs ms (m ++ replicate z 0)
-  wider rs ms m h = record { message = padded m h.message; near = h.near }
+  wider rs ms m h = record { message = padded z M s some m h.message; near = h.near }
 
   -- a message of the code below that ends in zeros is, without them, one of the trimmed code
   narrower : (rs ms whole : List ℕ) → zero_check (drop (M.dimension - z) whole) ≡ Ok tt → Reached M rs ms whole
@@ -90,24 +72,6 @@ module _ (z : ℕ) (M : Meaning) (s : Sound M) (some : z < M.dimension) where
   none_left rs ms whole a b ne h m h' =
       one-reached {M = M} rs ms whole (m ++ replicate z 0) s a b h (wider rs ms m h')
       (λ e. ne (ap (λ (t : List ℕ). zero_check (drop (M.dimension - z) t)) e ∙ ap zero_check (drop_at m (replicate z 0) (M.dimension - z) h'.message.long) ∙ zeros_pass z))
-
-  pub trimmed-sound : Sound (trimmed z M)
-  trimmed-sound = record {
-    order_low = s.order_low;
-    order_high = s.order_high;
-    length_low = s.length_low;
-    length_high = s.length_high;
-    dimension_low = omega arith;
-    dimension_high = let h = s.dimension_high in omega arith;
-    distance_low = s.distance_low;
-    distance_high = s.distance_high;
-    word_long = λ m h. s.word_long (m ++ replicate z 0) (padded m h);
-    word_below = λ m h. s.word_below (m ++ replicate z 0) (padded m h);
-    apart = λ m m' h h' ne. s.apart (m ++ replicate z 0) (m' ++ replicate z 0) (padded m h) (padded m' h') (λ e. ne (front m m' h.long h'.long e));
-  }
-    where
-      front : (m m' : List ℕ) → length m ≡ M.dimension - z → length m' ≡ M.dimension - z → m ++ replicate z 0 ≡ m' ++ replicate z 0 → m ≡ m'
-      front m m' l l' e = sym (take_at m (replicate z 0) (M.dimension - z) l) ∙ ap (take (M.dimension - z)) e ∙ take_at m' (replicate z 0) (M.dimension - z) l'
 
 -- a decoding by the code below, under the checks of the trimmed code
 module _ (z : ℕ) (M : Meaning) (law : M.fitness ≡ Ok tt → Sound M) (need : ℕ) (rs ms : List ℕ) (room : ℕ) (old new scr scr' : List ℕ) (r : Result ℕ CodeFault)

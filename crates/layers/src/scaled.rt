@@ -1,6 +1,6 @@
 // A layer over any code: each number of a word is multiplied by a multiplier of its own.
 ghost use Rattle.layers.specs.Scaled.{scaled};
-ghost use borrow.Author.Rules;
+ghost use Rattle.layers.specs.ScaledSound.{lawful, scaling, scaled-sound};
 
 use crate::scaling;
 use codes::fault::{CodeFault, FitnessFault};
@@ -20,6 +20,14 @@ pub struct Scaled<F, M, C> {
 
 impl<F: Field, M: Numbers, C: Issuer> Issuer for Scaled<F, M, C> {
     ghost meaning = { λ c. scaled (F.Field.arithmetic c.field) (M.Numbers.listed c.multipliers) (C.Issuer.meaning c.code) };
+
+    ghost sound = { λ c fit.
+        let F' = F.Field.arithmetic c.field in
+        let L = lawful (F.Field.sizes c.field) (F.Field.sums c.field) (F.Field.products c.field) (F.Field.inverses c.field) in
+        let xs = M.Numbers.listed c.multipliers in
+        let B = C.Issuer.meaning c.code in
+        let p = scaling F' xs B fit in
+        scaled-sound F' L xs B (C.Issuer.sound c.code p.fits) p };
 
     fn fitness(&self) -> Result<(), FitnessFault> {
         self.code.fitness()?;
@@ -60,7 +68,7 @@ impl<F: Field, M: Numbers, C: Issuer> Issuer for Scaled<F, M, C> {
 impl<F: Field, M: Numbers, C: Code> Code for Scaled<F, M, C> {
     ghost need = { λ c. C.Code.need c.code };
 
-    ghost needs = { Prim.search Needs.needs };
+    ghost needs = { λ c fit. C.Code.needs c.code (scaling (F.Field.arithmetic c.field) (M.Numbers.listed c.multipliers) (C.Issuer.meaning c.code) fit).fits };
 
     fn need(&self) -> usize {
         self.code.need()

@@ -2,7 +2,7 @@
 ghost use Rattle.std.specs.Prelude.{◌≡◌, length, drop, Ok};
 ghost use Rattle.codes.specs.Meaning.{decode_check, Solved};
 ghost use Rattle.layers.specs.Trimmed.{trimmed};
-ghost use borrow.Author.Rules;
+ghost use Rattle.layers.specs.TrimmedSound.{fit-below, trimmed-sound};
 
 use codes::checks::check_zeros;
 use codes::fault::{CodeFault, FitnessFault};
@@ -20,6 +20,11 @@ pub struct Trimmed<C> {
 
 impl<C: Issuer> Issuer for Trimmed<C> {
     ghost meaning = { λ c. trimmed c.by (C.Issuer.meaning c.code) };
+
+    ghost sound = { λ c fit.
+        let B = C.Issuer.meaning c.code in
+        let p = fit-below c.by B fit in
+        trimmed-sound c.by B (C.Issuer.sound c.code p.0) p.1 };
 
     fn fitness(&self) -> Result<(), FitnessFault> {
         self.code.fitness()?;
@@ -82,7 +87,7 @@ impl<C: Code> Trimmed<C> {
 impl<C: Code> Code for Trimmed<C> {
     ghost need = { λ c. C.Code.need c.code };
 
-    ghost needs = { Prim.search Needs.needs };
+    ghost needs = { λ c fit. C.Code.needs c.code (fit-below c.by (C.Issuer.meaning c.code) fit).0 };
 
     fn need(&self) -> usize {
         self.code.need()

@@ -1,6 +1,6 @@
 // The repetition code as an issuer and as a code.
 ghost use Rattle.repetition.specs.Repeats.{repetition};
-ghost use borrow.Author.Rules;
+ghost use Rattle.repetition.specs.Sound.{repetition-sound, needs_none};
 
 use crate::majority::majority;
 use codes::fault::{CodeFault, FitnessFault};
@@ -17,6 +17,8 @@ pub struct Repetition {
 
 impl Issuer for Repetition {
     ghost meaning = { λ c. repetition c.order c.length };
+
+    ghost sound = { λ c fit. repetition-sound c.order c.length fit };
 
     fn fitness(&self) -> Result<(), FitnessFault> {
         if self.length == 0 || self.length > 128 {
@@ -54,7 +56,7 @@ impl Issuer for Repetition {
 impl Code for Repetition {
     ghost need = { λ _. 0 };
 
-    ghost needs = { Prim.search Needs.needs };
+    ghost needs = { λ c fit. needs_none };
 
     fn need(&self) -> usize {
         0

@@ -15,7 +15,7 @@ impl<F: Field, M: Numbers, C: Code> Scaled<F, M, C> {
             ≡ scaled (F.Field.arithmetic field) (M.Numbers.listed multipliers) (C.Issuer.meaning code) }
         ensures scales { Scales (F.Field.arithmetic field) (M.Numbers.listed multipliers) (C.Issuer.meaning code)
             (scaled_meant F.row M.row C.row F.Field M.Numbers C.Issuer result) }
-        ensures need { scaled_need F.row M.row C.row F.Field M.Numbers C.Issuer C.Code result ≡ C.Code.need code }
+        ensures need { scaled_need F.row M.row C.row F.Field M.Numbers C.Issuer C.Code.own result ≡ C.Code.need code }
     {
         Scaled {
             field,

@@ -11,7 +11,7 @@ impl<C: Code> Trimmed<C> {
     pub fn new(code: C, by: usize) -> Trimmed<C>
         ensures meaning { trimmed_meant C.row C.Issuer result ≡ trimmed by (C.Issuer.meaning code) }
         ensures trims { Trims by (C.Issuer.meaning code) (trimmed_meant C.row C.Issuer result) }
-        ensures need { trimmed_need C.row C.Issuer C.Code result ≡ C.Code.need code }
+        ensures need { trimmed_need C.row C.Issuer C.Code.own result ≡ C.Code.need code }
     {
         Trimmed { code, by }
     }

@@ -20,20 +20,20 @@ within g c =
     let here = place r c.loop-j.j c.args.marks.now c.args.points.now c.loop-j-test.true c.requires.points c.if-marks-j-eq0.true c.loop-j.invariant.0 in
     omega (arith, row_ends r (length xs) c.args.w here.0)
 
-pub overflow-mul-from : goal.overflow-mul-from
-overflow-mul-from g c = omega (arith, within g c)
+pub overflow_mul-from : goal.overflow_mul-from
+overflow_mul-from g c = omega (arith, within g c)
 
-pub overflow-add-from : goal.overflow-add-from
-overflow-add-from g c = omega (arith, within g c)
+pub overflow_add-from : goal.overflow_add-from
+overflow_add-from g c = omega (arith, within g c)
 
-pub offset-bounds-rows-from : goal.offset-bounds-rows-from
-offset-bounds-rows-from g c = omega (arith, within g c)
+pub offset_bounds-rows-from : goal.offset_bounds-rows-from
+offset_bounds-rows-from g c = omega (arith, within g c)
 
-pub slice-bounds-write-equation-end : goal.slice-bounds-write-equation-end
-slice-bounds-write-equation-end g c = omega (arith, within g c)
+pub slice_bounds-write_equation-end : goal.slice_bounds-write_equation-end
+slice_bounds-write_equation-end g c = omega (arith, within g c)
 
-pub overflow-add-r : goal.overflow-add-r
-overflow-add-r g c =
+pub overflow_add-r : goal.overflow_add-r
+overflow_add-r g c =
     let here = place c.loop-j.r c.loop-j.j c.args.marks.now c.args.points.now c.loop-j-test.true c.requires.points c.if-marks-j-eq0.true c.loop-j.invariant.0 in
     omega (arith, here.0, length-present c.args.marks.now c.args.points.now c.requires.points)
 
@@ -61,11 +61,11 @@ loop-j-preserved g c =
           let size : length xs * w ≡ length c.args.rows.now = c.requires.size in
           let kept : length s ≡ length c.args.rows.now = c.loop-j.auto.rows in
           let ends : r * w + w ≤ length s = omega (arith, row_ends r (length xs) w here.0) in
-          let target = v.write-equation.new.row in
+          let target = v.write_equation.new.row in
           let part : length (take d (drop (r * w) s)) ≡ w = ap (λ n. length (take n (drop (r * w) s))) width ∙ length-row w r s ends in
-          let long : length target ≡ w = v.write-equation.auto.row ∙ part in
+          let long : length target ≡ w = v.write_equation.auto.row ∙ part in
           let is : target ≡ equation F a (w - a) (get_or xs r 0) (get_or ys r 0) =
-          v.write-equation.ensures ∙ ap (λ n. equation F a (n - a) (get_or ps j 0) (get_or ws j 0)) part
+          v.write_equation.ensures ∙ ap (λ n. equation F a (n - a) (get_or ps j 0) (get_or ws j 0)) part
           ∙ ap₂ (λ x y. equation F a (w - a) x y) (sym here.1) (sym here'.1) in (
             ap (λ n. drop n xs) v.r-is ∙ here.2,
             ap (λ n. drop n ys) v.r-is ∙ here'.2,

@@ -9,13 +9,13 @@ use Rattle.evaluation.proofs.points.check_points.Goals as goal
 pub returns-then-from-order : goal.returns-then-from-order
 returns-then-from-order c = let e = points_more c.args.order c.args.points.now c.loop-j.j c.loop-j-test.true in grind (arith, nat_tests)
 
-pub returns-then-is-among : goal.returns-then-is-among
-returns-then-is-among c =
+pub returns-then-is_among : goal.returns-then-is_among
+returns-then-is_among c =
     let j = c.loop-j.j in
     let ps = c.args.points.now in
     let e = points_more c.args.order ps j c.loop-j-test.true in
     let w : j - 0 ≡ j = omega arith in
-    let h : among (get_or ps j 0) (take j ps) ≡ true = ap (λ i. among (get_or ps j 0) (take i ps)) (sym w) ∙ sym c.is-among.ensures ∙ c.if-is-among.true in
+    let h : among (get_or ps j 0) (take j ps) ≡ true = ap (λ i. among (get_or ps j 0) (take i ps)) (sym w) ∙ sym c.is_among.ensures ∙ c.if-is_among.true in
     grind (arith, nat_tests)
 
 pub loop-j-preserved : goal.loop-j-preserved
@@ -24,7 +24,7 @@ loop-j-preserved c =
     let ps = c.args.points.now in
     let e = points_more c.args.order ps j c.loop-j-test.true in
     let w : j - 0 ≡ j = omega arith in
-    let h : among (get_or ps j 0) (take j ps) ≡ false = ap (λ i. among (get_or ps j 0) (take i ps)) (sym w) ∙ sym c.is-among.ensures ∙ c.if-is-among.false in
+    let h : among (get_or ps j 0) (take j ps) ≡ false = ap (λ i. among (get_or ps j 0) (take i ps)) (sym w) ∙ sym c.is_among.ensures ∙ c.if-is_among.false in
     grind (arith, nat_tests)
 
 pub returns : goal.returns

@@ -3,7 +3,7 @@ use Rattle.std.proofs.ByRecursion.{All-get_or}
 use Rattle.std.proofs.lemmas.List.{ext_get_or, get_or-take, length-take-le}
 use Rattle.fields.specs.Arithmetic.{total}
 use Rattle.layers.specs.Scaled.{quotients}
-use Rattle.layers.proofs.Multiply.{none_written, more_written, same-written, quotient_at, at-unmarked, at-marked, length-quotients, get_or-quotients}
+use Rattle.layers.specs.Products.{none_written, more_written, same-written, quotient_at, at-unmarked, at-marked, length-quotients, get_or-quotients}
 use Rattle.layers.proofs.scaling.divide_word.Goals as goal
 use Rattle.layers.proofs.scaling.divide_word.Goals.{then-mark-eq0, else-mark-eq0}
 

@@ -1,5 +1,5 @@
 use Rattle.fields.specs.Arithmetic.{total}
-use Rattle.layers.proofs.Multiply.{Written, quotient_at}
+use Rattle.layers.specs.Products.{Written, quotient_at}
 use Rattle.layers.proofs.scaling.divide_word.Given as goal
 
 abbrev pub invariant-loop-i : goal.invariant-loop-i

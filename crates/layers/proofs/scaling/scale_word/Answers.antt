@@ -1,7 +1,7 @@
 use Rattle.std.proofs.Common.{◌≡◌, length, sym, ◌∙◌, arith}
 use Rattle.std.proofs.lemmas.List.{ext_get_or}
 use Rattle.fields.specs.Arithmetic.{total}
-use Rattle.layers.proofs.Multiply.{length-products, get_or-products}
+use Rattle.layers.specs.Products.{length-products, get_or-products}
 use Rattle.layers.proofs.scaling.scale_word.Goals as goal
 
 pub returns : goal.returns

@@ -3,17 +3,17 @@ use Rattle.codes.proofs.Passed.{unmarked_below}
 use Rattle.repetition.proofs.Repeats.{none_near, missing-few}
 use Rattle.repetition.proofs.majority.majority.Goals as goal
 
-pub overflow-add-wrong : goal.overflow-add-wrong
-overflow-add-wrong c =
+pub overflow_add-wrong : goal.overflow_add-wrong
+overflow_add-wrong c =
     let m = missing-few c.args.marks.now in
-    let e = c.count-missing-missing.ensures in
-    let few = c.count-wrong-wrong.ensures.few in
+    let e = c.count_missing-missing.ensures in
+    let few = c.count_wrong-wrong.ensures.few in
     omega arith
 
 pub returns-then-wrong-missing : goal.returns-then-wrong-missing
 returns-then-wrong-missing c =
-    let v = c.count-wrong-wrong.ensures.value in
-    let e = c.count-missing-missing.ensures in
+    let v = c.count_wrong-wrong.ensures.value in
+    let e = c.count_missing-missing.ensures in
     let b : c.loop-i.i < length c.args.received.now = omega arith in
     record {
       near = omega arith;

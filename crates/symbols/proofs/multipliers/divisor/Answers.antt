@@ -13,7 +13,7 @@ returns g c =
     let x = get_or xs j 0 in
     let start : j - 0 ≡ j = omega arith in
     let short : length (drop (j + 1) xs) ≤ length xs - (j + 1) = simp length-drop (omega arith) in
-    let before = c.multiply-differences-before.ensures ∙ ap₂ (λ a n. differences F a x (take n xs)) c.power.ensures start in
-    c.multiply-differences.ensures
+    let before = c.multiply_differences-before.ensures ∙ ap₂ (λ a n. differences F a x (take n xs)) c.power.ensures start in
+    c.multiply_differences.ensures
     ∙ ap₂ (λ a ys. differences F a x ys) before (take_all (length xs - (j + 1)) (drop (j + 1) xs) short)
     ∙ differences-append F (power F x c.args.b) x (take j xs) (drop (j + 1) xs)

@@ -7,10 +7,10 @@ use Rattle.symbols.proofs.powers.power.Goals as goal
 pub loop-i-preserved : goal.loop-i-preserved
 loop-i-preserved g c =
     let F = operations g.F.Field c.args.f.now in
-    c.multiply-p.ensures ∙ ap (λ w. F.times w c.args.x) c.loop-i.invariant ∙ power-more F c.args.x c.loop-i.-i
+    c.multiply-p.ensures ∙ ap (λ w. F.times w c.args.x) c.loop-i.invariant ∙ power-more F c.args.x c.loop-i._i
 
 pub returns : goal.returns
 returns g c =
     let F = operations g.F.Field c.args.f.now in
-    let end : c.loop-i.-i ≡ c.args.exponent = omega arith in
+    let end : c.loop-i._i ≡ c.args.exponent = omega arith in
     c.loop-i.invariant ∙ ap (power F c.args.x) end

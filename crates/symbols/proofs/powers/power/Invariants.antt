@@ -4,4 +4,4 @@ use Rattle.symbols.specs.Symbols.{power}
 use Rattle.symbols.proofs.powers.power.Given as goal
 
 abbrev pub invariant-loop-i : goal.invariant-loop-i
-invariant-loop-i g l = l.p ≡ power (operations g.F.Field l.f) l.x l.-i
+invariant-loop-i g l = l.p ≡ power (operations g.F.Field l.f) l.x l._i

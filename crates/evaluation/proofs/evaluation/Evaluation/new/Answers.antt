@@ -10,5 +10,5 @@ returns g c =
     record {
       meaning = refl;
       evaluates = evaluates (g.F.Field.arithmetic x) L c.args.n c.args.k (g.P.Numbers.listed c.args.points);
-      goal = refl;
+      need = refl;
     }

@@ -9,8 +9,8 @@ use Rattle.evaluation.specs.Checked.{fit-proper}
 use Rattle.evaluation.specs.Counted.{unmarked_present}
 use Rattle.evaluation.proofs.evaluation.EvaluationCode.decode.Goals as goal
 
-pub decode-in-requires : goal.decode-in-requires
-decode-in-requires g c =
+pub decode_in-requires : goal.decode_in-requires
+decode_in-requires g c =
     let s = c.args.self.now in
     let F = g.F.Field.arithmetic s.field in
     let n = s.length in
@@ -19,7 +19,7 @@ decode-in-requires g c =
     let room = (n + 1) * (n + 3) in
     let rs = c.args.received.now in
     let ms = c.args.marks.now in
-    let p = passed M room rs ms (length c.args.message.now) (length c.args.scratch.now) (sym c.in-ok-check-decode.ensures) in
+    let p = passed M room rs ms (length c.args.message.now) (length c.args.scratch.now) (sym c.in_ok-check_decode.ensures) in
     let proper = fit-proper F.order n s.dimension ps p.fits in
     let front = take (length rs - 0) c.gather-points.result in
     let whole : length rs - 0 ≡ n = omega (arith, p.received) in
@@ -53,22 +53,22 @@ returns g c =
     let rs = c.args.received.now in
     let ms = c.args.marks.now in
     let old = c.args.message.now in
-    let new = c.decode-in.new.message in
+    let new = c.decode_in.new.message in
     let scratch = c.args.scratch.now in
-    let r = c.decode-in.result in
-    let ok = sym c.in-ok-check-decode.ensures in
+    let r = c.decode_in.result in
+    let ok = sym c.in_ok-check_decode.ensures in
     let p = passed M room rs ms (length old) (length scratch) ok in
     let proper = fit-proper F.order n k ps p.fits in
     let front = take (length rs - 0) c.gather-points.result in
     let whole : length rs - 0 ≡ n = omega (arith, p.received) in
     let is : front ≡ ps = ap (λ (i : ℕ). take i c.gather-points.result) whole ∙ ap (take n) c.gather-points.ensures ∙ front-filled 128 n ps proper.counted proper.few in
     let S : ℕ → ℕ → List ℕ → Type 0 = λ a b xs. Solved (evaluation F a b xs) rs ms old new r in
-    let s₁ : S (length ps) (length old) ps = subst (λ (xs : List ℕ). S (length xs) (length old) xs) is c.decode-in.ensures in
+    let s₁ : S (length ps) (length old) ps = subst (λ (xs : List ℕ). S (length xs) (length old) xs) is c.decode_in.ensures in
     let s₂ : S n (length old) ps = subst (λ (a : ℕ). S a (length old) ps) proper.counted s₁ in
     let s₃ : S n k ps = subst (λ (b : ℕ). S n b ps) p.message s₂ in
     let goal = c.need-need.ensures in
     let lent : length (take (c.need-need.result - 0) scratch) ≡ c.need-need.result - 0 = length-take-le (c.need-need.result - 0) scratch (omega (arith, goal, p.scratch)) in
-    let used : length c.decode-in.new.room ≡ room = omega (arith, c.decode-in.auto.room, lent, goal) in
+    let used : length c.decode_in.new.room ≡ room = omega (arith, c.decode_in.auto.room, lent, goal) in
     let width : c.need-need.result - 0 ≡ room = omega (arith, goal) in
     decided_from (decode_check M room rs ms (length old) (length scratch)) M room rs ms old new scratch _ r ok s₃
-    (drop_at c.decode-in.new.room (drop (c.need-need.result - 0) scratch) room used ∙ ap (λ (i : ℕ). drop i scratch) width)
+    (drop_at c.decode_in.new.room (drop (c.need-need.result - 0) scratch) room used ∙ ap (λ (i : ℕ). drop i scratch) width)

@@ -15,7 +15,7 @@ returns g c =
     let ps = g.P.Numbers.listed s.points in
     let M = evaluation F n s.dimension ps in
     let room = length c.args.word.now in
-    let ok = c.in-ok-check-issue.ensures in
+    let ok = c.in_ok-check_issue.ensures in
     let p = issuable M c.args.message.now room (sym ok) in
     let proper = fit-proper F.order n s.dimension ps p.fits in
     let whole : room - 0 ≡ n = omega (arith, p.word) in
@@ -23,5 +23,5 @@ returns g c =
     ap (λ (i : ℕ). take i c.gather-points.result) whole ∙ ap (take n) c.gather-points.ensures ∙ front-filled 128 n ps proper.counted proper.few in
     record {
       answer = ok;
-      buffer = c.write-word.ensures ∙ ap (λ (xs : List ℕ). word (total F) xs c.args.message.now) is;
+      buffer = c.write_word.ensures ∙ ap (λ (xs : List ℕ). word (total F) xs c.args.message.now) is;
     }

@@ -6,5 +6,5 @@ pub returns : goal.returns
 returns g c = record {
   meaning = refl;
   trims = trims c.args.by (g.C.Issuer.meaning c.args.code) (g.met.C.Issuer.sound c.args.code);
-  goal = refl;
+  need = refl;
 }

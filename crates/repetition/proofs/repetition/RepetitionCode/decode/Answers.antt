@@ -14,7 +14,7 @@ returns c =
     let old = c.args.message.now in
     let room = length old in
     let lent = length c.args.scratch.now in
-    let ok : decode_check M 0 rs ms room lent ≡ Ok tt = sym c.in-ok-check-decode.ensures in
+    let ok : decode_check M 0 rs ms room lent ≡ Ok tt = sym c.in_ok-check_decode.ensures in
     let p = passed M 0 rs ms room lent ok in
-    let found : ℕ × ℕ = (c.in-ok-number.number, c.in-ok-number.wrong) in
-    decided_from _ M 0 rs ms _ _ _ _ _ ok (solved-one s.order s.length rs ms old found p.received p.message c.in-ok-number.ensures) (search rules)
+    let found : ℕ × ℕ = (c.in_ok-number.number, c.in_ok-number.wrong) in
+    decided_from _ M 0 rs ms _ _ _ _ _ ok (solved-one s.order s.length rs ms old found p.received p.message c.in_ok-number.ensures) (search rules)
