@@ -12,15 +12,15 @@ use codes::interface::{Code, Issuer};
 impl<C: Code> Collector<C> {
     // Writes the sheet, row after row, and answers how many of the kept numbers are wrong; a refusal writes nothing.
     pub fn read(&self, sheet: &mut [u16], scratch: &mut [u16]) -> Result<usize, CollectorFault>
-        ensures answer { Read C.Issuer C.Code self.now sheet.old sheet.new scratch.old scratch.new result }
-        ensures run { Reads C.Issuer C.Code self.now sheet.old sheet.new scratch.old result }
+        ensures answer { Read C.Issuer C.Code.own self.now sheet.old sheet.new scratch.old scratch.new result }
+        ensures run { Reads C.Issuer C.Code.own self.now sheet.old sheet.new scratch.old result }
     {
         self.read_sheet(sheet, scratch)
     }
 
     // The same, with no word of the calls made before.
     fn read_sheet(&self, sheet: &mut [u16], scratch: &mut [u16]) -> Result<usize, CollectorFault>
-        ensures { Read C.Issuer C.Code self.now sheet.old sheet.new scratch.old scratch.new result }
+        ensures { Read C.Issuer C.Code.own self.now sheet.old sheet.new scratch.old scratch.new result }
     {
         self.check_read(sheet.len(), scratch.len())?;
         let mut whole = blank_sheet();
@@ -30,7 +30,7 @@ impl<C: Code> Collector<C> {
 
     // The checks of a read with buffers of these lengths.
     fn check_read(&self, asked: usize, lent: usize) -> Result<(), CollectorFault>
-        ensures { result ≡ read_answer C.Issuer C.Code self.now asked lent }
+        ensures { result ≡ read_answer C.Issuer C.Code.own self.now asked lent }
     {
         self.fitness()?;
         if asked != self.depth * self.code.dimension() {
@@ -49,7 +49,7 @@ impl<C: Code> Collector<C> {
         sheet: &mut [u16],
         scratch: &mut [u16],
     ) -> Result<usize, CollectorFault>
-        requires checked { read_answer C.Issuer C.Code self.now (length sheet.old) (length scratch.old) ≡ Ok tt }
+        requires checked { read_answer C.Issuer C.Code.own self.now (length sheet.old) (length scratch.old) ≡ Ok tt }
         requires long { length whole.old ≡ length sheet.old }
         ensures found { let s = self.now in Found (meaning_of C.Issuer s) s.depth (records_of C.Issuer s) sheet.old sheet.new result }
         ensures rest { let n = C.Code.need self.now.code in drop n scratch.new ≡ drop n scratch.old }
@@ -61,7 +61,7 @@ impl<C: Code> Collector<C> {
 
     // All rows, first to last, into a sheet of the right length.
     fn decode_rows(&self, sheet: &mut [u16], scratch: &mut [u16]) -> Result<usize, RowFault>
-        requires checked { read_answer C.Issuer C.Code self.now (length sheet.old) (length scratch.old) ≡ Ok tt }
+        requires checked { read_answer C.Issuer C.Code.own self.now (length sheet.old) (length scratch.old) ≡ Ok tt }
         ensures rows { let s = self.now in Rows (meaning_of C.Issuer s) s.depth (records_of C.Issuer s) sheet.new result }
         ensures rest { let n = C.Code.need self.now.code in drop n scratch.new ≡ drop n scratch.old }
     {

@@ -11,7 +11,7 @@ loop-x-preserved g c =
     let m = c.args.message.now in
     let i = c.loop-x.x-index in
     let more : take (i + 1) points ≡ take i points ++ get_or points i 0 ∷ [] = take_more points i 0 c.loop-x-test.true in
-    c.in-ok-push.ensures.items
+    c.in_ok-push.ensures.items
     ∙ ap (λ (xs : List ℕ). xs ++ c.evaluate.result ∷ []) c.loop-x.invariant
     ∙ ap (λ (y : ℕ). word F (take i points) m ++ y ∷ []) c.evaluate.ensures
     ∙ sym (ap (λ (p : List ℕ). word F p m) more ∙ map_push (value F m) (take i points) (get_or points i 0))

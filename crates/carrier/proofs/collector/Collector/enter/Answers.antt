@@ -9,7 +9,7 @@ returns g c =
     let i = g.C.Issuer in
     let m = meaning_of i s in
     let strip = c.args.strip.now in
-    let ok = c.in-ok-check-deliver.ensures in
+    let ok = c.in_ok-check_deliver.ensures in
     let p = accepted (fitness_of i s) m.long s.depth m.order (records_of i s) c.args.place strip (sym ok) in
     record {
       answer = ok;

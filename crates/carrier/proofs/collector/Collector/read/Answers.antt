@@ -15,10 +15,10 @@ returns g c =
     let b = records_of i s in
     let old = c.args.sheet.now in
     let scratch = c.args.scratch.now in
-    let new = c.read-sheet.new.sheet in
-    let r = c.read-sheet.result in
+    let new = c.read_sheet.new.sheet in
+    let r = c.read_sheet.result in
     record {
-      answer = c.read-sheet.ensures;
+      answer = c.read_sheet.ensures;
       run = λ right calls held.
           let law = g.met.C.Issuer.sound s.code right.fit.fits in
           let full = s.table.full in
@@ -26,6 +26,6 @@ returns g c =
           let long : length b ≡ m.long = simp (length-map, length-take) (omega arith) in
           let same = held right.fit in
           reading m D (book_of m D calls) old r new law (ap length (sym same) ∙ long)
-          (told-run (read_answer i k s (length old) (length scratch)) m (k.need s.code) D b calls old new scratch c.read-sheet.new.scratch r
-          (λ _. (law, long)) c.read-sheet.ensures (right_passes m (k.need s.code) D old scratch right) same);
+          (told-run (read_answer i k s (length old) (length scratch)) m (k.need s.code) D b calls old new scratch c.read_sheet.new.scratch r
+          (λ _. (law, long)) c.read_sheet.ensures (right_passes m (k.need s.code) D old scratch right) same);
     }

@@ -8,7 +8,7 @@ returns g c =
     let s = c.args.self.now in
     let i = g.C.Issuer in
     let m = meaning_of i s in
-    let ok = c.in-ok-check-strike.ensures in
+    let ok = c.in_ok-check_strike.ensures in
     let p = removed (fitness_of i s) m.long (records_of i s) c.args.place (sym ok) in
     record {
       answer = ok;
