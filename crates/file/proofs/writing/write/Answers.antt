@@ -16,10 +16,10 @@ chosen h picked code sheet old new r e is w =
 
 pub returns-in-Remainders : goal.returns-in-Remainders
 returns-in-Remainders c =
-    chosen c.args.heading.now c.in-ok-code.field-0 (Remainders c.in-Remainders.code) c.args.sheet.now c.args.output.now c.write-with.new.output c.write-with.result
-    c.in-ok-code.ensures c.in-Remainders.is c.write-with.ensures
+    chosen c.args.heading.now c.in_ok-code.field-0 (Remainders c.in-Remainders.code) c.args.sheet.now c.args.output.now c.write_with.new.output c.write_with.result
+    c.in_ok-code.ensures c.in-Remainders.is c.write_with.ensures
 
 pub returns-in-Bytes : goal.returns-in-Bytes
 returns-in-Bytes c =
-    chosen c.args.heading.now c.in-ok-code.field-0 (Bytes c.in-Bytes.code) c.args.sheet.now c.args.output.now c.write-with-in-Bytes.new.output c.write-with-in-Bytes.result
-    c.in-ok-code.ensures c.in-Bytes.is c.write-with-in-Bytes.ensures
+    chosen c.args.heading.now c.in_ok-code.field-0 (Bytes c.in-Bytes.code) c.args.sheet.now c.args.output.now c.write_with-in-Bytes.new.output c.write_with-in-Bytes.result
+    c.in_ok-code.ensures c.in-Bytes.is c.write_with-in-Bytes.ensures

@@ -13,11 +13,11 @@ returns g c =
     let w = 1 + 2 * h.depth in
     let m = c.length.result in
     let B = strips_bytes (strips_of_sheet M h.depth sheet) in
-    let ok : write_check M h.depth sheet (length out) ≡ Ok tt = sym c.check-write.ensures ∙ c.in-ok-check-write.was in
+    let ok : write_check M h.depth sheet (length out) ≡ Ok tt = sym c.check_write.ensures ∙ c.in_ok-check_write.was in
     let long : length B ≡ m * w = length-strips_by (entry_by M sheet) h.depth M.long ∙ ap (λ x. x * w) (sym c.length.ensures) in
     let k8 : (m * w + 8) - m * w ≡ 8 = omega arith in
     let z : m * w - 0 ≡ m * w = omega arith in
     rw ok (
       ap (λ (x : ℕ). Ok x) (sym (length-file h B (m * w) long)),
-      assembled h B c.put-sheet.new.output c.put-trailer.new.output out (m * w) ((m * w + 8) - m * w) (m * w - 0) c.put-sheet.ensures long c.put-trailer.ensures k8 z,
+      assembled h B c.put_sheet.new.output c.put_trailer.new.output out (m * w) ((m * w + 8) - m * w) (m * w - 0) c.put_sheet.ensures long c.put_trailer.ensures k8 z,
     )

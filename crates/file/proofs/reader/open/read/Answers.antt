@@ -14,8 +14,8 @@ returns-then-back-end c =
       heading = h;
       back = c.in-Some.trailer.back;
       ends = e.1;
-      meaning = meaning_in c.in-ok-code.code;
-      code = c.in-ok-code.ensures;
+      meaning = meaning_in c.in_ok-code.code;
+      code = c.in_ok-code.ensures;
       none = λ h' ss f.
           let m = must h h' c.in-Some.trailer.back e.1.front ss c.args.file.now e.1.bytes f in
           elim c.then-back-end.branch [
@@ -24,9 +24,9 @@ returns-then-back-end c =
           ];
     }
 
-pub returns-in-err-fitness : goal.returns-in-err-fitness
-returns-in-err-fitness c =
-    let p = err_from_is_err_and c.from-residual-in-err-fitness.result c.from-residual-in-err-fitness.ensures.1 in
+pub returns-in_err-fitness : goal.returns-in_err-fitness
+returns-in_err-fitness c =
+    let p = err_from_is_err_and c.from_residual-in_err-fitness.result c.from_residual-in_err-fitness.ensures.1 in
     let h = c.in-Some.trailer.heading in
     let back = c.in-Some.trailer.back in
     let file = c.args.file.now in
@@ -36,10 +36,10 @@ returns-in-err-fitness c =
     record {
       heading = h;
       strips = held h (take ((length file - 8) - ((length file - 8) - back)) (drop ((length file - 8) - back) file));
-      form = form_of h back file (λ i. (c.type-inv.file i).fits) e.0 ends c.if-back-end.false c.if-back-depth-ne0.false;
-      meaning = meaning_in c.in-ok-code.code;
-      code = c.in-ok-code.ensures;
-      unfit = sym c.fitness.ensures ∙ c.in-err-fitness.was;
+      form = form_of h back file (λ i. (c.type_inv.file i).fits) e.0 ends c.if-back-end.false c.if-back-depth-ne0.false;
+      meaning = meaning_in c.in_ok-code.code;
+      code = c.in_ok-code.ensures;
+      unfit = sym c.fitness.ensures ∙ c.in_err-fitness.was;
     }
 
 pub returns : goal.returns
@@ -49,12 +49,12 @@ returns c =
     let file = c.args.file.now in
     let e = c.in-Some.ensures in
     let ends = front-is h back file e.1.front e.1.bytes in
-    let f = form_of h back file (λ i. (c.type-inv.file i).fits) e.0 ends c.if-back-end.false c.if-back-depth-ne0.false in
+    let f = form_of h back file (λ i. (c.type_inv.file i).fits) e.0 ends c.if-back-end.false c.if-back-depth-ne0.false in
     record {
-      meaning = meaning_in c.in-ok-code.code;
+      meaning = meaning_in c.in_ok-code.code;
       holds = record {
-        code = c.in-ok-code.ensures;
-        fit = sym c.fitness.ensures ∙ c.in-ok-fitness.was;
+        code = c.in_ok-code.ensures;
+        fit = sym c.fitness.ensures ∙ c.in_ok-fitness.was;
         form = f;
       };
       alone = λ h' ss' f'. alone h h' (held h (take ((length file - 8) - ((length file - 8) - back)) (drop ((length file - 8) - back) file))) ss' file f f';

@@ -27,8 +27,8 @@ returns g c =
     let k = g.C.Code in
     let ss = g.S.StripSource.strips c.args.source.now in
     let s = c.new-collector.result in
-    let t = c.deliver-all-declined.new.collector in
-    let all = c.deliver-all-declined.ensures in
+    let t = c.deliver_all-declined.new.collector in
+    let all = c.deliver_all-declined.ensures in
     let holds : Holds i t (map brought ss) = all.run [] c.new-collector.ensures.run in
     let old = c.args.sheet.now in
     let new = c.read-wrong.new.sheet in
@@ -40,11 +40,11 @@ returns g c =
     let M = meaning_of i t in
     let n = k.need t.code in
     let b = records_of i t in
-    let count : c.deliver-all-declined.result ≡ declined M t.depth (replicate M.long None) ss =
+    let count : c.deliver_all-declined.result ≡ declined M t.depth (replicate M.long None) ss =
     all.declined ∙ declined-fresh i s ss c.new-collector.ensures.run
     ∙ ap (λ x. declined (i.meaning x) s.depth (replicate (i.meaning x).long None) ss) (sym all.code)
     ∙ ap (λ (d : ℕ). declined M d (replicate M.long None) ss) (sym all.depth) in
-    let o : Outcome = record { kept = c.kept-kept.result; declined = c.deliver-all-declined.result; wrong = r } in
+    let o : Outcome = record { kept = c.kept-kept.result; declined = c.deliver_all-declined.result; wrong = r } in
     let here : Collected M n t.depth ss old new scr scr' o = record {
       kept = λ fit. c.kept-kept.ensures ∙ ap held_places (holds fit);
       declined = count;

@@ -9,17 +9,17 @@ pub loop-i-init : goal.loop-i-init
 loop-i-init g c =
     let s = c.args.collector.now in
     let ss = g.S.StripSource.strips c.args.source.now in
-    (ap length c.blank-strip-buffer.ensures, omega arith, refl, refl, brings_none g.C.Issuer s ss, omega arith)
+    (ap length c.blank_strip-buffer.ensures, omega arith, refl, refl, brings_none g.C.Issuer s ss, omega arith)
 
 pub loop-i-preserved : goal.loop-i-preserved
 loop-i-preserved g c =
     let i = g.C.Issuer in
     let e = c.args.collector.now in
     let s = c.loop-i.collector in
-    let t = c.deliver-one-declined.new.collector in
+    let t = c.deliver_one-declined.new.collector in
     let ss = g.S.StripSource.strips c.args.source.now in
     let inv = c.loop-i.invariant in
-    let ens = c.deliver-one-declined.ensures in
+    let ens = c.deliver_one-declined.ensures in
     let less : c.loop-i.i < length ss = omega (arith, c.count-i-end.ensures, c.loop-i-test.true) in
     let few = refused-few i s t ss c.loop-i.i in
     let more = declined-more i s t ss c.loop-i.i less ens.records in (
