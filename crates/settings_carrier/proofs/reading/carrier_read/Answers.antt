@@ -12,5 +12,5 @@ returns-in-Ok c =
     record {
       outcome = Ok x;
       fills = fills;
-      told = (refl, c.found.ensures, placed x c.rows-rows.result.now c.copy-from-slice.new.self c.args.sheet.now c.rows-rows.ensures few c.copy-from-slice.ensures.after);
+      told = (refl, c.found.ensures, placed x c.rows-rows.result.now c.copy_from_slice.new.self c.args.sheet.now c.rows-rows.ensures few c.copy_from_slice.ensures.after);
     }

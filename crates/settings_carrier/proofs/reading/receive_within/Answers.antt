@@ -4,12 +4,12 @@ use Rattle.file.specs.Reads.{strips_of}
 use Rattle.settings_carrier.specs.Readings.{size}
 use Rattle.settings_carrier.proofs.Rooms.{fills, declines, roomy}
 use Rattle.settings_carrier.proofs.reading.receive_within.Goals as goal
-use Rattle.settings_carrier.proofs.reading.receive_within.Goals.{then-file-le-LONGEST+in-ok-read+else-room-heading, else-file-le-LONGEST}
+use Rattle.settings_carrier.proofs.reading.receive_within.Goals.{then-file-le-LONGEST+in_ok-read+else-room-heading, else-file-le-LONGEST}
 
-pub returns-in-err-read : goal.returns-in-err-read
-returns-in-err-read c =
-    let p = err_from_is_err_and c.from-residual.result c.from-residual.ensures.1 in
-    rw (p.1, p.2) (declines c.args.file.now c.args.room c.in-err-read.field-0.0 c.if-file-le-LONGEST.true c.in-err-read.ensures)
+pub returns-in_err-read : goal.returns-in_err-read
+returns-in_err-read c =
+    let p = err_from_is_err_and c.from_residual.result c.from_residual.ensures.1 in
+    rw (p.1, p.2) (declines c.args.file.now c.args.room c.in_err-read.field-0.0 c.if-file-le-LONGEST.true c.in_err-read.ensures)
 
 pub returns : goal.returns
 returns c =
@@ -17,10 +17,10 @@ returns c =
     let room = c.args.room in
     fills file room c.receive.result
     (elim c.if-file-le-LONGEST.branch [
-      | then-file-le-LONGEST+in-ok-read+else-room-heading w ↦
-          let R = w.in-ok-read.field-0 in
+      | then-file-le-LONGEST+in_ok-read+else-room-heading w ↦
+          let R = w.in_ok-read.field-0 in
           let fits : size R.heading ≤ room = omega (arith, ap size w.heading-heading.ensures, w.if-room-heading.false) in
-          roomy file room R.heading (strips_of R) w.in-ok-read.ensures fits
+          roomy file room R.heading (strips_of R) w.in_ok-read.ensures fits
       | else-file-le-LONGEST w ↦ λ h ss short taken. absurd (omega (arith, w.if-file-le-LONGEST.false))
     ])
     c.receive.ensures

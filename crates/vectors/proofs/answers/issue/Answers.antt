@@ -5,6 +5,6 @@ use Rattle.vectors.proofs.answers.issue.Goals as goal
 pub returns-in-Ok : goal.returns-in-Ok
 returns-in-Ok g c =
     let new = c.issue.new.word in
-    let word = c.in-ok-word.word in
-    let long : length new ≡ word.len = omega (arith, c.issue.auto.word, c.deref-mut.ensures.len) in
+    let word = c.in_ok-word.word in
+    let long : length new ≡ word.len = omega (arith, c.issue.auto.word, c.deref_mut.ensures.len) in
     take_at new (drop (length new) word.items) word.len long ∙ c.in-Ok.ensures.buffer

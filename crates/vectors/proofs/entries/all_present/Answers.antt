@@ -7,7 +7,7 @@ loop-number-preserved c =
     let xs = c.args.numbers.now in
     let i = c.loop-number.number-index in
     let more : take (i + 1) xs ≡ take i xs ++ get_or xs i 0 ∷ [] = take_more xs i 0 c.loop-number-test.true in
-    c.in-ok-push.ensures.items
+    c.in_ok-push.ensures.items
     ∙ ap (λ (ys : List (Option ℕ)). ys ++ Some (get_or xs i 0) ∷ []) c.loop-number.invariant
     ∙ sym (ap (λ (ys : List ℕ). map Some ys) more ∙ map_push Some (take i xs) (get_or xs i 0))
 

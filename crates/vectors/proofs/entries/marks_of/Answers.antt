@@ -9,9 +9,9 @@ loop-slot-preserved c =
     let i = c.loop-slot.slot-index in
     let x = get_or xs i None in
     let more : take (i + 1) xs ≡ take i xs ++ x ∷ [] = take_more xs i None c.loop-slot-test.true in
-    c.in-ok-push.ensures.items
-    ∙ ap (λ (ys : List ℕ). ys ++ c.mark-of.result ∷ []) c.loop-slot.invariant
-    ∙ ap (λ (y : ℕ). map mark (take i xs) ++ y ∷ []) c.mark-of.ensures
+    c.in_ok-push.ensures.items
+    ∙ ap (λ (ys : List ℕ). ys ++ c.mark_of.result ∷ []) c.loop-slot.invariant
+    ∙ ap (λ (y : ℕ). map mark (take i xs) ++ y ∷ []) c.mark_of.ensures
     ∙ sym (ap (λ (ys : List (Option ℕ)). map mark ys) more ∙ map_push mark (take i xs) x)
 
 pub returns : goal.returns

@@ -7,7 +7,7 @@ pub returns : goal.returns
 returns c =
     let xs = c.args.expected.now in
     let ys = c.args.got.now in
-    let count : c.count-differing.result ≡ differ xs ys = c.count-differing.ensures.value in
+    let count : c.count_differing.result ≡ differ xs ys = c.count_differing.ensures.value in
     record {
       compared = c.max-compared.ensures;
       differing = omega arith;
