@@ -3,7 +3,7 @@ use Rattle.std.proofs.Common.{◌≡◌, ℕ, zero, suc, ◌+◌, ◌<◌, ◌�
 use native.Mathlib.Decide.{dec_lt}
 use lib.ListN.{length-replicate, get_or-replicate}
 use Rattle.std.proofs.lemmas.Bool.Decides.{nat_tests}
-use Rattle.std.specs.List.{AllByRecursion as All}
+use Rattle.std.specs.List.{AllByRecursion}
 use Rattle.fields.specs.Numbers.{Below}
 use Rattle.carrier.specs.Book.{Book, Call, deliver, strike, read, after, booked, book, vacant, filled, all_below}
 use Rattle.carrier.specs.Kept.{Kept, BookKeeps}
@@ -105,10 +105,10 @@ record Came (n D q : ℕ) (b : Book) (cs : List Call) (place : ℕ) (strip : Lis
   empty : get_or (booked n D q b earlier) place None ≡ None
   long : length strip ≡ D
   below : Below q strip
-  unstruck : All (λ call. call ≢ strike place) later
+  unstruck : AllByRecursion (λ call. call ≢ strike place) later
 
 abbrev Stayed : Book → List Call → ℕ → List ℕ → Type 0
-Stayed b cs place strip = (get_or b place None ≡ Some strip) × All (λ call. call ≢ strike place) cs
+Stayed b cs place strip = (get_or b place None ≡ Some strip) × AllByRecursion (λ call. call ≢ strike place) cs
 
 more : (n D q : ℕ) (b : Book) (c : Call) (cs : List Call) (place : ℕ) (strip : List ℕ) → Came n D q (after n D q b c) cs place strip → Came n D q b (c ∷ cs) place strip
 more n D q b c cs place strip h = record {
@@ -187,7 +187,7 @@ stays_one n D q b (deliver p s) place strip ne e =
     go true = refl
     go false = refl
 
-stays : (n D q : ℕ) (b : Book) (cs : List Call) (place : ℕ) (strip : List ℕ) → All (λ call. call ≢ strike place) cs → get_or b place None ≡ Some strip → get_or (booked n D q b cs) place None ≡ Some strip
+stays : (n D q : ℕ) (b : Book) (cs : List Call) (place : ℕ) (strip : List ℕ) → AllByRecursion (λ call. call ≢ strike place) cs → get_or b place None ≡ Some strip → get_or (booked n D q b cs) place None ≡ Some strip
 stays n D q b [] place strip h e = e
 stays n D q b (c ∷ cs) place strip h e = stays n D q (after n D q b c) cs place strip h.1 (stays_one n D q b c place strip h.0 e)
 

@@ -1,6 +1,6 @@
 -- Which strips a run keeps, said of its calls and not step by step.
 use Rattle.std.specs.Prelude.{◌≡◌, ℕ, ◌<◌, ◌≢◌, ◌↔◌, List, ◌∷◌, ◌++◌, length, get_or, Some, None, slice_index_or}
-use Rattle.std.specs.List.{AllByRecursion as All}
+use Rattle.std.specs.List.{AllByRecursion}
 use Rattle.fields.specs.Numbers.{Below}
 use Rattle.carrier.specs.Book.{Call, deliver, strike, book}
 
@@ -13,7 +13,7 @@ pub record Kept (n D q : ℕ) (calls : List Call) (place : ℕ) (strip : List �
   pub empty : get_or (book n D q earlier) place None ≡ None
   pub long : length strip ≡ D
   pub below : Below q strip
-  pub unstruck : All (λ call. call ≢ strike place) later
+  pub unstruck : AllByRecursion (λ call. call ≢ strike place) later
 
 -- The book holds exactly the strips that are kept.
 abbrev pub BookKeeps : ℕ → ℕ → ℕ → List Call → Type 0

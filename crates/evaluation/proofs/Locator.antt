@@ -3,7 +3,7 @@ use Rattle.std.proofs.Common.{◌≡◌, ℕ, zero, suc, ◌+◌, ◌*◌, ◌<�
 use native.Mathlib.Decide.{dec_le}
 use borrow.Author.Tests.{eqb-false}
 use Rattle.std.proofs.ByRecursion.{All-append}
-use Rattle.std.specs.List.{AllByRecursion as All}
+use Rattle.std.specs.List.{AllByRecursion}
 use Rattle.fields.specs.Arithmetic.{Arithmetic}
 use Rattle.fields.specs.Numbers.{Below, Zeros, Distinct, differ}
 use Rattle.fields.proofs.Algebra
@@ -37,11 +37,11 @@ module _ (F : Arithmetic) (L : TotalLaws F) where
 
   infixl 65 ◌⊕◌
   infixl 70 ◌⊗◌
-  pub hits-all : (P : ℕ → Type 0) (c xs ys : List ℕ) → All P xs → All P (hits F c xs ys)
+  pub hits-all : (P : ℕ → Type 0) (c xs ys : List ℕ) → AllByRecursion P xs → AllByRecursion P (hits F c xs ys)
   hits-all P c [] ys h = tt
   hits-all P c (x ∷ xs) [] h = tt
   hits-all P c (x ∷ xs) (y ∷ ys) h =
-      elim (eqb (value F c x) y) as (λ b. All P (cond b (x ∷ hits F c xs ys) (hits F c xs ys))) [ true ↦ (h.0, hits-all P c xs ys h.1) | false ↦ hits-all P c xs ys h.1 ]
+      elim (eqb (value F c x) y) as (λ b. AllByRecursion P (cond b (x ∷ hits F c xs ys) (hits F c xs ys))) [ true ↦ (h.0, hits-all P c xs ys h.1) | false ↦ hits-all P c xs ys h.1 ]
 
   pub hits-distinct : (c xs ys : List ℕ) → Distinct xs → Distinct (hits F c xs ys)
   hits-distinct c [] ys h = tt
@@ -64,12 +64,12 @@ module _ (F : Arithmetic) (L : TotalLaws F) where
   value-key p s c x y e z =
       Values.value-added F L p (product F c s) x ∙ ap (λ w. value F p x ⊕ w) (Values.value-product F L c s x ∙ ap (λ w. w ⊗ value F s x) e) ∙ z
 
-  pub hits-roots : (p s c xs ys : List ℕ) → Meets F p s xs ys → All (λ x. value F (added F p (product F c s)) x ≡ 0) (hits F c xs ys)
+  pub hits-roots : (p s c xs ys : List ℕ) → Meets F p s xs ys → AllByRecursion (λ x. value F (added F p (product F c s)) x ≡ 0) (hits F c xs ys)
   hits-roots p s c [] ys m = tt
   hits-roots p s c (x ∷ xs) [] m = tt
   hits-roots p s c (x ∷ xs) (y ∷ ys) m = go (eqb (value F c x) y) refl (hits-roots p s c xs ys m.1)
     where
-      go : (b : Bool) → eqb (value F c x) y ≡ b → All (λ z. value F (added F p (product F c s)) z ≡ 0) (hits F c xs ys) → All (λ z. value F (added F p (product F c s)) z ≡ 0) (cond b (x ∷ hits F c xs ys) (hits F c xs ys))
+      go : (b : Bool) → eqb (value F c x) y ≡ b → AllByRecursion (λ z. value F (added F p (product F c s)) z ≡ 0) (hits F c xs ys) → AllByRecursion (λ z. value F (added F p (product F c s)) z ≡ 0) (cond b (x ∷ hits F c xs ys) (hits F c xs ys))
       go true e r = (value-key p s c x y (eqb-true _ _ e) m.0, r)
       go false e r = r
 
@@ -81,11 +81,11 @@ module _ (F : Arithmetic) (L : TotalLaws F) where
       (Values.added-below F L p (product F c s) hp (Values.product-below F L c s)) (hits-roots p s c xs ys m)
       (omega (arith, Values.length-added F L p (product F c s), Values.length-product F L c s t ls, hits-count c xs ys e))
 
-  misses-all : (P : ℕ → Type 0) (c xs ys : List ℕ) → All P xs → All P (misses F c xs ys)
+  misses-all : (P : ℕ → Type 0) (c xs ys : List ℕ) → AllByRecursion P xs → AllByRecursion P (misses F c xs ys)
   misses-all P c [] ys h = tt
   misses-all P c (x ∷ xs) [] h = tt
   misses-all P c (x ∷ xs) (y ∷ ys) h =
-      elim (eqb (value F c x) y) as (λ b. All P (cond b (misses F c xs ys) (x ∷ misses F c xs ys))) [ true ↦ misses-all P c xs ys h.1 | false ↦ (h.0, misses-all P c xs ys h.1) ]
+      elim (eqb (value F c x) y) as (λ b. AllByRecursion P (cond b (misses F c xs ys) (x ∷ misses F c xs ys))) [ true ↦ misses-all P c xs ys h.1 | false ↦ (h.0, misses-all P c xs ys h.1) ]
 
   misses-distinct : (c xs ys : List ℕ) → Distinct xs → Distinct (misses F c xs ys)
   misses-distinct c [] ys h = tt
@@ -118,12 +118,12 @@ module _ (F : Arithmetic) (L : TotalLaws F) where
       Algebra.spread-right F L u (neg y) v ∙ ap (λ w. w ⊕ neg y ⊗ v) same ∙ sym (Algebra.spread-right F L y (neg y) v) ∙ ap (λ w. w ⊗ v) (L.plus_opposite y) ∙ Algebra.zero-times F L v in
       Algebra.no_divisor F L (u ⊕ neg y) v (L.plus_below u (neg y)) (λ d. ne (Algebra.same_from F L u y hu hy d)) hv none
 
-  misses-roots : (p s c xs ys : List ℕ) → Below q ys → Divides F p s c → Meets F p s xs ys → All (λ x. value F s x ≡ 0) (misses F c xs ys)
+  misses-roots : (p s c xs ys : List ℕ) → Below q ys → Divides F p s c → Meets F p s xs ys → AllByRecursion (λ x. value F s x ≡ 0) (misses F c xs ys)
   misses-roots p s c [] ys hy z m = tt
   misses-roots p s c (x ∷ xs) [] hy z m = tt
   misses-roots p s c (x ∷ xs) (y ∷ ys) hy z m = go (eqb (value F c x) y) refl (misses-roots p s c xs ys hy.1 z m.1)
     where
-      go : (b : Bool) → eqb (value F c x) y ≡ b → All (λ z. value F s z ≡ 0) (misses F c xs ys) → All (λ z. value F s z ≡ 0) (cond b (misses F c xs ys) (x ∷ misses F c xs ys))
+      go : (b : Bool) → eqb (value F c x) y ≡ b → AllByRecursion (λ z. value F s z ≡ 0) (misses F c xs ys) → AllByRecursion (λ z. value F s z ≡ 0) (cond b (misses F c xs ys) (x ∷ misses F c xs ys))
       go true e r = r
       go false e r = (root_of p s c x y hy.0 z m.0 (eqb-false _ _ e), r)
 
@@ -137,7 +137,7 @@ module _ (F : Arithmetic) (L : TotalLaws F) where
             (omega (arith, misses-count c xs ys e, h))))
       ]
 
-  no_values : (p s xs ys : List ℕ) → length xs ≡ length ys → Zeros s → Meets F p s xs ys → All (λ x. value F p x ≡ 0) xs
+  no_values : (p s xs ys : List ℕ) → length xs ≡ length ys → Zeros s → Meets F p s xs ys → AllByRecursion (λ x. value F p x ≡ 0) xs
   no_values p s [] ys e z m = tt
   no_values p s (x ∷ xs) [] e z m = absurd (omega arith)
   no_values p s (x ∷ xs) (y ∷ ys) e z m = (
@@ -183,6 +183,6 @@ module _ (F : Arithmetic) (L : TotalLaws F) where
   pub equation-below : (a b x y : ℕ) → y < q → Below q (equation F a b x y)
   equation-below a b x y h = All-append (λ z. z < q) (powers F 1 x a) (powers F y x b) (powers-below a 1 x (Algebra.one_below F L)) (powers-below b y x h)
 
-pub all_parts : (P : ℕ → Type 0) (xs ys : List ℕ) → All P (xs ++ ys) → All P xs × All P ys
+pub all_parts : (P : ℕ → Type 0) (xs ys : List ℕ) → AllByRecursion P (xs ++ ys) → AllByRecursion P xs × AllByRecursion P ys
 all_parts P [] ys h = (tt, h)
 all_parts P (x ∷ xs) ys h = let r = all_parts P xs ys h.1 in ((h.0, r.0), r.1)

@@ -3,7 +3,7 @@ use Rattle.std.specs.Prelude.{◌≡◌, ℕ, ◌+◌, ◌<◌, ◌≤◌, Bool,
 use Rattle.std.proofs.Common.{append_assoc, sym, ap, subst, ◌∙◌, arith}
 use Rattle.std.proofs.lemmas.List.{at_drop_more, take_more}
 use Rattle.std.proofs.lemmas.Bool.Decides.{nat_tests}
-use Rattle.std.specs.List.{AllByRecursion as All}
+use Rattle.std.specs.List.{AllByRecursion}
 use Rattle.fields.specs.Numbers.{Below, Distinct, among}
 use Rattle.fields.specs.Checks.{Check, unless, and_then}
 use Rattle.codes.specs.declared.fault.FitnessFault.{FitnessFault}
@@ -18,14 +18,14 @@ points_more q xs i h =
     at_drop_more (point_check q (take i xs) i) xs i 0 h
     ∙ ap (λ (b : List ℕ). unless (nat_lt (slice_index xs i) q && not (among (slice_index xs i) (take i xs))) (Point i) (point_check q b (i + 1) (drop (i + 1) xs))) (sym (take_more xs i 0 h))
 
-pub absent : (x : ℕ) (ys : List ℕ) → among x ys ≡ false → All (λ y. y ≢ x) ys
+pub absent : (x : ℕ) (ys : List ℕ) → among x ys ≡ false → AllByRecursion (λ y. y ≢ x) ys
 absent x [] e = tt
 absent x (y ∷ ys) e =
     let here : nat_eq x y ≡ false = grind (arith, nat_tests) in
     let rest : among x ys ≡ false = grind (arith, nat_tests) in
     ((λ s. grind (arith, nat_tests)), absent x ys rest)
 
-pub not_among : (x : ℕ) (ys : List ℕ) → All (λ y. y ≢ x) ys → among x ys ≡ false
+pub not_among : (x : ℕ) (ys : List ℕ) → AllByRecursion (λ y. y ≢ x) ys → among x ys ≡ false
 not_among x [] h = refl
 not_among x (y ∷ ys) h = let r = not_among x ys h.1 in let n : y ≢ x = h.0 in grind (arith, nat_tests)
 
@@ -43,11 +43,11 @@ points_good q before i (x ∷ xs) e d =
     ((l, r.0), subst Distinct (append_assoc before (x ∷ []) xs) r.1)
 
 -- no number of the first list stands in the second
-all_apart : (before : List ℕ) (x : ℕ) (xs : List ℕ) → Distinct (before ++ x ∷ xs) → All (λ y. y ≢ x) before
+all_apart : (before : List ℕ) (x : ℕ) (xs : List ℕ) → Distinct (before ++ x ∷ xs) → AllByRecursion (λ y. y ≢ x) before
 all_apart [] x xs d = tt
 all_apart (y ∷ ys) x xs d = (λ e. last_of ys d.0 (sym e), all_apart ys x xs d.1)
   where
-    last_of : (zs : List ℕ) → All (λ z. z ≢ y) (zs ++ x ∷ xs) → x ≢ y
+    last_of : (zs : List ℕ) → AllByRecursion (λ z. z ≢ y) (zs ++ x ∷ xs) → x ≢ y
     last_of [] h = h.0
     last_of (z ∷ zs) h = last_of zs h.1
 

@@ -2,7 +2,7 @@
 use Rattle.std.specs.Prelude.{◌≡◌, ℕ, ◌+◌, ◌-◌, ◌*◌, ◌<◌, ◌≤◌, List, [], ◌∷◌, map, length, Ok, Err, Result, refl}
 use Rattle.std.proofs.Common.{sym, ap, subst, ◌∙◌, mul-le-mul, arith}
 use Rattle.std.proofs.lemmas.List.{get_or-map, length-map}
-use Rattle.std.specs.List.{AllByRecursion as All}
+use Rattle.std.specs.List.{AllByRecursion}
 use Rattle.fields.specs.Arithmetic.{Arithmetic, total}
 use Rattle.fields.specs.Laws.{Laws}
 use Rattle.fields.specs.Numbers.{differ}
@@ -20,7 +20,7 @@ use Rattle.evaluation.specs.Evaluation.{evaluation, evaluation_fit, Proper, Eval
 use Rattle.evaluation.specs.Checked.{fit-proper, proper_fit}
 use Rattle.evaluation.specs.Counted.{length-present, same-wrong}
 
-all_of : (P : ℕ → Type 0) (f : ℕ → ℕ) → ((x : ℕ) → P (f x)) → (xs : List ℕ) → All P (map f xs)
+all_of : (P : ℕ → Type 0) (f : ℕ → ℕ) → ((x : ℕ) → P (f x)) → (xs : List ℕ) → AllByRecursion P (map f xs)
 all_of P f h [] = tt
 all_of P f h (x ∷ xs) = (h x, all_of P f h xs)
 

@@ -3,7 +3,7 @@ use Rattle.std.specs.Prelude.{◌≡◌, ℕ, zero, suc, ◌+◌, ◌<◌, ◌�
 use Rattle.std.proofs.Common.{sym, ap, ap₂, ◌∙◌, arith}
 use Rattle.std.proofs.ByRecursion.{All-push}
 use Rattle.std.proofs.lemmas.List.{drop_more, length-drop}
-use Rattle.std.specs.List.{AllByRecursion as All}
+use Rattle.std.specs.List.{AllByRecursion}
 use Rattle.fields.specs.Numbers.{Distinct}
 use Rattle.evaluation.specs.Decoding.{present}
 
@@ -25,7 +25,7 @@ front_of r x p t e =
     let e' : slice_index_or p r 0 ∷ drop (r + 1) p ≡ x ∷ t = sym (drop_more p r 0 l) ∙ e in
     (l, ap (λ s. slice_index s 0) e', ap (drop 1) e')
 
-pub present-all : (P : ℕ → Type 0) (ms xs : List ℕ) → All P xs → All P (present ms xs)
+pub present-all : (P : ℕ → Type 0) (ms xs : List ℕ) → AllByRecursion P xs → AllByRecursion P (present ms xs)
 present-all P [] xs h = tt
 present-all P (m ∷ ms) [] h = tt
 present-all P (zero ∷ ms) (x ∷ xs) h = (h.0, present-all P ms xs h.1)
@@ -42,6 +42,6 @@ pub place : (r j : ℕ) (ms xs : List ℕ) → j < length ms → length xs ≡ l
     → (r < length (present ms xs)) × (slice_index (present ms xs) r ≡ slice_index xs j) × (drop (r + 1) (present ms xs) ≡ present (drop (j + 1) ms) (drop (j + 1) xs))
 place r j ms xs h e z inv = front_of r (slice_index xs j) (present ms xs) (present (drop (j + 1) ms) (drop (j + 1) xs)) (inv ∙ present-zero j ms xs h (omega arith) z)
 
-pub distinct_push : (xs : List ℕ) (y : ℕ) → Distinct xs → All (λ x. x ≢ y) xs → Distinct (xs ++ y ∷ [])
+pub distinct_push : (xs : List ℕ) (y : ℕ) → Distinct xs → AllByRecursion (λ x. x ≢ y) xs → Distinct (xs ++ y ∷ [])
 distinct_push [] y h n = (tt, tt)
 distinct_push (x ∷ xs) y h n = (All-push (λ z. z ≢ x) xs y h.0 (λ e. n.0 (sym e)), distinct_push xs y h.1 n.1)

@@ -1,19 +1,19 @@
 -- Lists of numbers: bounded, all zeros, distinct, and in how many places two of them differ.
 use Rattle.std.specs.Prelude.{◌≡◌, ℕ, ◌+◌, ◌<◌, Bool, false, cond, ◌||◌, ◌≢◌, List, [], ◌∷◌, ◌==◌}
-use Rattle.std.specs.List.{AllByRecursion as All}
+use Rattle.std.specs.List.{AllByRecursion}
 
 -- every number is below q
 abbrev pub Below : ℕ → List ℕ → Type 0
-Below q xs = All (λ x. x < q) xs
+Below q xs = AllByRecursion (λ x. x < q) xs
 
 -- every number is 0
 abbrev pub Zeros : List ℕ → Type 0
-Zeros xs = All (λ x. x ≡ 0) xs
+Zeros xs = AllByRecursion (λ x. x ≡ 0) xs
 
 -- no number stands twice
 abbrev pub Distinct : List ℕ → Type 0
 Distinct [] = Unit {0}
-Distinct (x ∷ xs) = All (λ y. y ≢ x) xs × Distinct xs
+Distinct (x ∷ xs) = AllByRecursion (λ y. y ≢ x) xs × Distinct xs
 
 -- whether a number stands in the list
 abbrev pub among : ℕ → List ℕ → Bool

@@ -1,6 +1,6 @@
 -- What was written is read back, and different sheets give different files.
 use Rattle.std.proofs.Common.{◌≡◌, ℕ, zero, suc, ◌+◌, ◌-◌, ◌*◌, ◌/◌, ◌%◌, ◌<◌, ◌≤◌, Bool, true, false, cond, ◌&&◌, T, eqb, ◌⊎◌, List, [], ◌∷◌, ◌++◌, map, length, get_or, take, drop, Some, None, Ok, Err, Option, sym, refl, ap, ◌∙◌, subst, inl, inr, append_assoc, suc-mul, arith, length-append, length-drop, length-take, take-add}
-use Rattle.std.specs.List.{range_with_len, AllByRecursion as All}
+use Rattle.std.specs.List.{range_with_len, AllByRecursion}
 use Rattle.std.proofs.lemmas.List.FromFn.{get_or-map-range_with_len}
 use Rattle.std.proofs.ByRecursion.{All-take, All-drop}
 use Rattle.std.proofs.lemmas.List.{ext_get_or, take_all}
@@ -66,7 +66,7 @@ none-refused file h M ss held Output d = d
 pub rightly : RefusedRightly
 rightly file f d h M ss held = none-refused file h M ss held f d
 
-form : (h : Heading) (ss : List Strip) (before : List ℕ) → All (λ s. length s.numbers ≡ h.depth) ss → Form h ss (before ++ file_bytes h ss)
+form : (h : Heading) (ss : List Strip) (before : List ℕ) → AllByRecursion (λ s. length s.numbers ≡ h.depth) ss → Form h ss (before ++ file_bytes h ss)
 form h ss before deep = record { ignored = before; deep = deep; bytes = refl }
 
 pub back : ReadsBack

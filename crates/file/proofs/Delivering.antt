@@ -2,7 +2,7 @@
 use Rattle.std.proofs.Common.{◌≡◌, ℕ, zero, suc, ◌+◌, ◌*◌, ◌<◌, ◌≤◌, ◌⊎◌, List, [], ◌∷◌, ◌++◌, map, length, get_or, take, drop, set, replicate, Some, None, Ok, Err, sym, refl, ap, ◌∙◌, subst, inl, inr, append_assoc, arith}
 use Rattle.std.proofs.ByRecursion.{All-get_or}
 use Rattle.std.proofs.lemmas.List.{drop_more, drop_all, get_or-drop, append-nil, map_more, take_all}
-use Rattle.std.specs.List.{flat_map, AllByRecursion as All}
+use Rattle.std.specs.List.{flat_map, AllByRecursion}
 use Rattle.fields.specs.Checks.{Check, and_then}
 use Rattle.codes.specs.Meaning.{Meaning}
 use Rattle.codes.specs.declared.interface.Issuer as issuer
@@ -102,7 +102,7 @@ get_or-numbers_in (suc D) bs (suc k) h =
     let b : get_or (drop 2 bs) (2 * k + 1) 0 ≡ get_or bs (2 * suc k + 1) 0 = get_or-drop 2 bs (2 * k + 1) 0 ∙ ap (λ m. get_or bs m 0) (let z : 2 + (2 * k + 1) ≡ 2 * suc k + 1 = omega arith in z) in
     get_or-numbers_in D (drop 2 bs) k less ∙ (let z : 256 * get_or (drop 2 bs) (2 * k) 0 + get_or (drop 2 bs) (2 * k + 1) 0 ≡ 256 * get_or bs (2 * suc k) 0 + get_or bs (2 * suc k + 1) 0 = omega arith in z)
 
-pub fetched : (ss : List Strip) (D i place : ℕ) (bytes : List ℕ) (d : Strip) → All (λ s. length s.numbers ≡ D) ss → i < length ss → place ≡ (get_or ss i d).place → bytes ≡ flat_map two (get_or ss i d).numbers → (length bytes ≡ 2 * D) × (get_or ss i d ≡ strip place (numbers_in D bytes))
+pub fetched : (ss : List Strip) (D i place : ℕ) (bytes : List ℕ) (d : Strip) → AllByRecursion (λ s. length s.numbers ≡ D) ss → i < length ss → place ≡ (get_or ss i d).place → bytes ≡ flat_map two (get_or ss i d).numbers → (length bytes ≡ 2 * D) × (get_or ss i d ≡ strip place (numbers_in D bytes))
 fetched ss D i place bytes d deep h p e =
     let x : Strip = get_or ss i d in
     let l : length x.numbers ≡ D = All-get_or (λ s. length s.numbers ≡ D) ss i d h deep in

@@ -2,7 +2,7 @@
 use Rattle.std.proofs.Common.{◌≡◌, ℕ, zero, suc, ◌+◌, ◌-◌, ◌*◌, ◌/◌, ◌%◌, ◌<◌, ◌≤◌, ◌⊎◌, List, [], ◌∷◌, ◌++◌, length, get_or, take, drop, sym, refl, ap, ◌∙◌, subst, inl, inr, append_assoc, suc-mul, div-add-mod', le-div_iff_mul-le, zero-mul, mul-div_cancel, arith, lit<, length-append, length-drop, take-append-drop, length-take}
 use native.Mathlib.Nat.{mul-mod_left}
 use Rattle.std.proofs.lemmas.List.{append-nil, take_at, drop_at, nil_from_length, drop-drop, take_all, get_or-drop, get_or-take, take-take, drop-take, drop_more, drop_all}
-use Rattle.std.specs.List.{flat_map, AllByRecursion as All}
+use Rattle.std.specs.List.{flat_map, AllByRecursion}
 use Rattle.file.specs.declared.heading.Heading.{Heading}
 use Rattle.file.specs.Form.{Strip, Form, two, strip, strip_bytes, strips_bytes, trailer, numbers_in, strip_in, strips_in}
 use Rattle.file.specs.Reads.{held}
@@ -52,7 +52,7 @@ pub length-strips_in : (D c : ℕ) (bs : List ℕ) → length (strips_in D c bs)
 length-strips_in D zero bs = refl
 length-strips_in D (suc c) bs = ap suc (length-strips_in D c (drop (1 + 2 * D) bs))
 
-pub deep_in : (D c : ℕ) (bs : List ℕ) → All (λ s. length s.numbers ≡ D) (strips_in D c bs)
+pub deep_in : (D c : ℕ) (bs : List ℕ) → AllByRecursion (λ s. length s.numbers ≡ D) (strips_in D c bs)
 deep_in D zero bs = tt
 deep_in D (suc c) bs = (length-numbers_in D (drop 1 bs), deep_in D c (drop (1 + 2 * D) bs))
 
@@ -65,7 +65,7 @@ strip-at D (suc c) bs (suc i) d h =
     strip-at D c (drop (1 + 2 * D) bs) i d less ∙ ap (strip_in D) (drop-drop (i * (1 + 2 * D)) (1 + 2 * D) bs ∙ ap (λ k. drop k bs) n)
 
 -- the bytes of strips
-pub length-strips : (D : ℕ) (ss : List Strip) → All (λ s. length s.numbers ≡ D) ss → length (strips_bytes ss) ≡ length ss * (1 + 2 * D)
+pub length-strips : (D : ℕ) (ss : List Strip) → AllByRecursion (λ s. length s.numbers ≡ D) ss → length (strips_bytes ss) ≡ length ss * (1 + 2 * D)
 length-strips D [] deep = sym (zero-mul (1 + 2 * D))
 length-strips D (s ∷ ss) deep =
     let a = length_two s.numbers in
@@ -74,7 +74,7 @@ length-strips D (s ∷ ss) deep =
     let g = length-append (flat_map two s.numbers) (strips_bytes ss) in
     omega (arith, deep.0)
 
-pub strips_of : (D : ℕ) (ss : List Strip) (rest : List ℕ) → All (λ s. length s.numbers ≡ D) ss → strips_in D (length ss) (strips_bytes ss ++ rest) ≡ ss
+pub strips_of : (D : ℕ) (ss : List Strip) (rest : List ℕ) → AllByRecursion (λ s. length s.numbers ≡ D) ss → strips_in D (length ss) (strips_bytes ss ++ rest) ≡ ss
 strips_of D [] rest deep = refl
 strips_of D (s ∷ ss) rest deep =
     let J : List ℕ = flat_map two s.numbers in
@@ -102,7 +102,7 @@ strips-back D (suc c) (b ∷ bs) small e =
     cc
 
 -- what is held of the bytes of strips
-pub held_of : (h : Heading) (ss : List Strip) → All (λ s. length s.numbers ≡ h.depth) ss → held h (strips_bytes ss) ≡ ss
+pub held_of : (h : Heading) (ss : List Strip) → AllByRecursion (λ s. length s.numbers ≡ h.depth) ss → held h (strips_bytes ss) ≡ ss
 held_of h ss deep =
     let pos : 0 < 1 + 2 * h.depth = omega arith in
     let n : length (strips_bytes ss) / (1 + 2 * h.depth) ≡ length ss = ap (λ k. k / (1 + 2 * h.depth)) (length-strips h.depth ss deep) ∙ mul-div_cancel (length ss) pos in

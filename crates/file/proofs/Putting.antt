@@ -2,7 +2,7 @@
 use Rattle.std.proofs.Common.{◌≡◌, ℕ, zero, suc, ◌+◌, ◌-◌, ◌*◌, ◌/◌, ◌%◌, ◌<◌, ◌≤◌, true, eqb, ltb, leb, ◌⊎◌, List, [], ◌∷◌, ◌++◌, map, length, get_or, take, drop, set, Ok, Err, sym, refl, ap, ◌∙◌, subst, inl, inr, append_assoc, mul-le-mul_right, suc-mul, arith, length-append, length-drop, length-set, length-take, below_more}
 use lib.Arith.{digits_lt}
 use borrow.Rule.Slice.PartMut.{put_mid, post_of}
-use Rattle.std.specs.List.{range_with_len, flat_map, AllByRecursion as All}
+use Rattle.std.specs.List.{range_with_len, flat_map, AllByRecursion}
 use Rattle.std.proofs.lemmas.List.{take_more_set, flat_map_more, get_or_append_left, get_or-append_right, get_or-take, length-take-le, take_at, drop_at, drop-drop}
 use Rattle.std.proofs.lemmas.List.FromFn.{map-range_with_len_more, length-map-range_with_len}
 use Rattle.file.proofs.Forms.{length_two, length-strips}
@@ -82,7 +82,7 @@ part_at a k xs ys j room h =
     let l : length (take a xs) ≡ a = length-take-le a xs room in
     get_or-append_right (take a xs) _ a (a + j) 0 l (omega arith) ∙ ap (λ m. get_or (ys ++ post_of a k xs) m 0) n ∙ get_or_append_left ys (post_of a k xs) 0 j h
 
-pub numbers-all : (q i : ℕ) (s : List ℕ) → All (λ x. x < q) s → number_check q i s ≡ Ok tt
+pub numbers-all : (q i : ℕ) (s : List ℕ) → AllByRecursion (λ x. x < q) s → number_check q i s ≡ Ok tt
 numbers-all q i [] a = refl
 numbers-all q i (x ∷ xs) a =
     let h : x < q = a.0 in
@@ -121,11 +121,11 @@ passed M D sheet room e =
 pub length-strip_by : (x : ℕ → ℕ → ℕ) (D j : ℕ) → length (strip_bytes (strip_by x D j)) ≡ 1 + 2 * D
 length-strip_by x D j = omega (arith, length_two (map (λ i. x i j) (range_with_len 0 D)), length-map-range_with_len (λ i. x i j) 0 D)
 
-deep : (x : ℕ → ℕ → ℕ) (D : ℕ) (js : List ℕ) → All (λ j. length (strip_by x D j).numbers ≡ D) js
+deep : (x : ℕ → ℕ → ℕ) (D : ℕ) (js : List ℕ) → AllByRecursion (λ j. length (strip_by x D j).numbers ≡ D) js
 deep x D [] = tt
 deep x D (j ∷ js) = (length-map-range_with_len (λ i. x i j) 0 D, deep x D js)
 
-pub deep-by : (x : ℕ → ℕ → ℕ) (D n : ℕ) → All (λ s. length s.numbers ≡ D) (strips_by x D n)
+pub deep-by : (x : ℕ → ℕ → ℕ) (D n : ℕ) → AllByRecursion (λ s. length s.numbers ≡ D) (strips_by x D n)
 deep-by x D n = All-map (λ s. length s.numbers ≡ D) (strip_by x D) (range_with_len 0 n) (deep x D (range_with_len 0 n))
 
 pub length-strips_by : (x : ℕ → ℕ → ℕ) (D n : ℕ) → length (strips_bytes (strips_by x D n)) ≡ n * (1 + 2 * D)

@@ -1,6 +1,6 @@
 -- The form of a file: bytes that nobody looks at, the strips, and eight bytes that say what they are.
 use Rattle.std.specs.Prelude.{◌≡◌, ℕ, zero, suc, ◌+◌, ◌*◌, ◌/◌, ◌%◌, List, [], ◌∷◌, ◌++◌, length, drop, slice_index}
-use Rattle.std.specs.List.{flat_map, AllByRecursion as All}
+use Rattle.std.specs.List.{flat_map, AllByRecursion}
 use Rattle.file.specs.declared.heading.Heading.{Heading}
 
 -- a strip: its place, and one number for each row
@@ -29,7 +29,7 @@ pub record Form (h : Heading) (strips : List Strip) (file : List ℕ) : Type 0 w
   -- the bytes before the strips, which say nothing
   pub ignored : List ℕ
   -- each strip has one number for each row
-  pub deep : All (λ s. length s.numbers ≡ h.depth) strips
+  pub deep : AllByRecursion (λ s. length s.numbers ≡ h.depth) strips
   pub bytes : file ≡ ignored ++ (strips_bytes strips ++ trailer h (length (strips_bytes strips)))
 
 -- D numbers from the front of these bytes

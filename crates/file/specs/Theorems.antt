@@ -1,6 +1,6 @@
 -- Files and what they carry determine each other.
 use Rattle.std.specs.Prelude.{◌≡◌, ℕ, ◌*◌, List, ◌++◌, length, Some, Ok, Err, Result}
-use Rattle.std.specs.List.{AllByRecursion as All}
+use Rattle.std.specs.List.{AllByRecursion}
 use Rattle.fields.specs.Numbers.{Below}
 use Rattle.codes.specs.Meaning.{Meaning}
 use Rattle.carrier.specs.Checks.{fit_check}
@@ -26,7 +26,7 @@ pub record SheetFor (h : Heading) (M : Meaning) (sheet : List ℕ) : Type 0 wher
 -- what is written for a heading and strips, whatever stands before it, is read as that heading and those strips, and is not refused
 abbrev pub ReadsBack : Type 0
 ReadsBack =
-    (h h' : Heading) (M : Meaning) (ss ss' : List Strip) (before : List ℕ) → Fitting h M → All (λ s. length s.numbers ≡ h.depth) ss →
+    (h h' : Heading) (M : Meaning) (ss ss' : List Strip) (before : List ℕ) → Fitting h M → AllByRecursion (λ s. length s.numbers ≡ h.depth) ss →
     (Taken h' ss' (before ++ file_bytes h ss) → (h' ≡ h) × (ss' ≡ ss)) × ((f : FileFault) → Declined (before ++ file_bytes h ss) f → ⊥)
 
 -- the files of two different headings, or of two different sheets, differ

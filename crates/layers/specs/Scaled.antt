@@ -1,6 +1,6 @@
 -- What scaling makes of a code's meaning.
 use Rattle.std.specs.Prelude.{ℕ, ◌+◌, ◌<◌, ◌≤◌, cond, ◌&&◌, List, [], ◌∷◌, length, Ok, ◌==◌, nat_le, nat_lt}
-use Rattle.std.specs.List.{AllByRecursion as All}
+use Rattle.std.specs.List.{AllByRecursion}
 use Rattle.fields.specs.Arithmetic.{Arithmetic, total}
 use Rattle.fields.specs.Checks.{Check, unless, and_then}
 use Rattle.codes.specs.Meaning.{Meaning}
@@ -9,7 +9,7 @@ use Rattle.codes.specs.declared.fault.FitnessFault.TheVariants.{Length, FieldSiz
 
 -- every number is below q and not 0
 abbrev pub Units : ℕ → List ℕ → Type 0
-Units q xs = All (λ x. (1 ≤ x) × (x < q)) xs
+Units q xs = AllByRecursion (λ x. (1 ≤ x) × (x < q)) xs
 
 -- the same as a check, or the place of the first multiplier that is not so; the list's first place is i
 abbrev pub multiplier_check : ℕ → ℕ → List ℕ → Check FitnessFault

@@ -2,7 +2,7 @@
 use Rattle.std.proofs.Common.{◌≡◌, ℕ, suc, ◌+◌, ◌<◌, ◌≤◌, Bool, true, false, cond, eqb, ◌≢◌, List, [], ◌∷◌, length, filter, refl, arith, eqb-true}
 use native.Mathlib.Decide.{dec_le}
 use lib.ListN.{length-map}
-use Rattle.std.specs.List.{AllByRecursion as All}
+use Rattle.std.specs.List.{AllByRecursion}
 use Rattle.fields.specs.Arithmetic.{Arithmetic}
 use Rattle.fields.proofs.Total.{TotalLaws}
 use Rattle.fields.specs.Numbers.{Below, Distinct, differ}
@@ -10,11 +10,11 @@ use Rattle.linear.specs.Polynomials.{value, scaled, word}
 use Rattle.linear.proofs.Roots
 use Rattle.linear.proofs.Values
 
--- what a filter keeps of an All, of distinct numbers
-pub kept-all : (P : ℕ → Type 0) (test : ℕ → Bool) (xs : List ℕ) → All P xs → All P (filter test xs)
+-- what a filter keeps of an AllByRecursion, of distinct numbers
+pub kept-all : (P : ℕ → Type 0) (test : ℕ → Bool) (xs : List ℕ) → AllByRecursion P xs → AllByRecursion P (filter test xs)
 kept-all P test [] h = tt
 kept-all P test (x ∷ xs) h =
-    elim (test x) as (λ b. All P (cond b (x ∷ filter test xs) (filter test xs))) [ true ↦ (h.0, kept-all P test xs h.1) | false ↦ kept-all P test xs h.1 ]
+    elim (test x) as (λ b. AllByRecursion P (cond b (x ∷ filter test xs) (filter test xs))) [ true ↦ (h.0, kept-all P test xs h.1) | false ↦ kept-all P test xs h.1 ]
 
 pub kept-distinct : (test : ℕ → Bool) (xs : List ℕ) → Distinct xs → Distinct (filter test xs)
 kept-distinct test [] h = tt
@@ -22,11 +22,11 @@ kept-distinct test (x ∷ xs) h =
     elim (test x) as (λ b. Distinct (cond b (x ∷ filter test xs) (filter test xs))) [ true ↦ (kept-all (λ y. y ≢ x) test xs h.0, kept-distinct test xs h.1) | false ↦ kept-distinct test xs h.1 ]
 
 -- each that is kept passes
-pub kept-passes : (test : ℕ → Bool) (xs : List ℕ) → All (λ x. test x ≡ true) (filter test xs)
+pub kept-passes : (test : ℕ → Bool) (xs : List ℕ) → AllByRecursion (λ x. test x ≡ true) (filter test xs)
 kept-passes test [] = tt
 kept-passes test (x ∷ xs) = go (test x) refl (kept-passes test xs)
   where
-    go : (b : Bool) → test x ≡ b → All (λ x. test x ≡ true) (filter test xs) → All (λ x. test x ≡ true) (cond b (x ∷ filter test xs) (filter test xs))
+    go : (b : Bool) → test x ≡ b → AllByRecursion (λ x. test x ≡ true) (filter test xs) → AllByRecursion (λ x. test x ≡ true) (cond b (x ∷ filter test xs) (filter test xs))
     go true e rest = (e, rest)
     go false e rest = rest
 
@@ -43,7 +43,7 @@ module _ (F : Arithmetic) (L : TotalLaws F) where
       go true rest = omega arith
       go false rest = omega arith
 
-  roots_of : (p s xs : List ℕ) → All (λ x. agree p s x ≡ true) xs → All (λ x. value F (Values.minus F L p s) x ≡ 0) xs
+  roots_of : (p s xs : List ℕ) → AllByRecursion (λ x. agree p s x ≡ true) xs → AllByRecursion (λ x. value F (Values.minus F L p s) x ≡ 0) xs
   roots_of p s [] h = tt
   roots_of p s (x ∷ xs) h = (Values.value-minus F L p s x (eqb-true _ _ h.0), roots_of p s xs h.1)
 

@@ -1,6 +1,6 @@
 -- A polynomial with as many roots as coefficients is zero.
 use Rattle.std.proofs.Common.{◌≡◌, ℕ, ◌<◌, ◌≤◌, ◌≢◌, List, [], ◌∷◌, length, get_or, sym, refl, ap, ◌∙◌, ap₂, arith}
-use Rattle.std.specs.List.{AllByRecursion as All}
+use Rattle.std.specs.List.{AllByRecursion}
 use Rattle.fields.specs.Arithmetic.{Arithmetic}
 use Rattle.fields.proofs.Total.{TotalLaws}
 use Rattle.fields.proofs.Algebra
@@ -70,7 +70,7 @@ module _ (F : Arithmetic) (L : TotalLaws F) where
       let rest = zeros_from_tails r p h.1 z.1 in
       (head_zero b r p h.0 rest z.0, rest)
 
-  others : (a r : ℕ) (p rs : List ℕ) → r < q → value F (a ∷ p) r ≡ 0 → All (λ y. y ≢ r) rs → Below q rs → All (λ x. value F (a ∷ p) x ≡ 0) rs → All (λ x. value F (tails r p) x ≡ 0) rs
+  others : (a r : ℕ) (p rs : List ℕ) → r < q → value F (a ∷ p) r ≡ 0 → AllByRecursion (λ y. y ≢ r) rs → Below q rs → AllByRecursion (λ x. value F (a ∷ p) x ≡ 0) rs → AllByRecursion (λ x. value F (tails r p) x ≡ 0) rs
   others a r p [] hr e n h z = tt
   others a r p (x ∷ rs) hr e n h z =
       let d = x ⊕ neg r in
@@ -80,7 +80,7 @@ module _ (F : Arithmetic) (L : TotalLaws F) where
         others a r p rs hr e n.1 h.1 z.1,
       )
 
-  pub roots_bound : (points p : List ℕ) → Distinct points → Below q points → Below q p → All (λ x. value F p x ≡ 0) points → length p ≤ length points → Zeros p
+  pub roots_bound : (points p : List ℕ) → Distinct points → Below q points → Below q p → AllByRecursion (λ x. value F p x ≡ 0) points → length p ≤ length points → Zeros p
   roots_bound [] [] ds hs hp z le = tt
   roots_bound [] (a ∷ p) ds hs hp z le = absurd (omega arith)
   roots_bound (r ∷ rs) [] ds hs hp z le = tt

@@ -1,6 +1,6 @@
 -- What holds of polynomials over every field.
 use Rattle.std.specs.Prelude.{◌≡◌, ℕ, ◌+◌, ◌≤◌, ◌≢◌, List, length, slice_index}
-use Rattle.std.specs.List.{AllByRecursion as All}
+use Rattle.std.specs.List.{AllByRecursion}
 use Rattle.fields.specs.Arithmetic.{Arithmetic, total}
 use Rattle.fields.specs.Laws.{Laws}
 use Rattle.fields.specs.Numbers.{Below, Zeros, Distinct, differ}
@@ -14,7 +14,7 @@ ConstantAtZero = (F : Arithmetic) → Laws F → (p : List ℕ) → Below F.orde
 abbrev pub RootBound : Type 0
 RootBound =
     (F : Arithmetic) → Laws F → (points p : List ℕ) → Distinct points → Below F.order points → Below F.order p → length p ≤ length points
-    → All (λ x. value (total F) p x ≡ 0) points → Zeros p
+    → AllByRecursion (λ x. value (total F) p x ≡ 0) points → Zeros p
 
 -- the words of two different messages of k numbers at n distinct points differ in at least n - k + 1 places
 abbrev pub WordsApart : Type 0

@@ -1,6 +1,6 @@
 -- The worked examples hold: one test, computed over their list.
 use Rattle.std.proofs.Common.{Bool, true, ◌&&◌, T, eqb, List, [], ◌∷◌, length, eqb→eq}
-use Rattle.std.specs.List.{AllByRecursion as All}
+use Rattle.std.specs.List.{AllByRecursion}
 use Rattle.fields.specs.Computed.{and_left, and_right}
 use Rattle.fields.specs.Arithmetic.{total, inverted, partner}
 use Rattle.codes.specs.Meaning.{issue_check}
@@ -29,7 +29,7 @@ abbrev all_pass : List Example → Bool
 all_pass [] = true
 all_pass (x ∷ xs) = passes x && all_pass xs
 
-all_hold : (xs : List Example) → T (all_pass xs) → All Holds xs
+all_hold : (xs : List Example) → T (all_pass xs) → AllByRecursion Holds xs
 all_hold [] h = tt
 all_hold (x ∷ xs) h = (holds x (and_left (passes x) (all_pass xs) h), all_hold xs (and_right (passes x) (all_pass xs) h))
 

@@ -1,6 +1,6 @@
 -- The worked examples, as one list. Each says what a call answers, by the definitions that the call's contract uses.
 use Rattle.std.specs.Prelude.{◌≡◌, ℕ, ◌≤◌, List, [], ◌∷◌, length, Some, None, Ok, Err, Option, Result}
-use Rattle.std.specs.List.{AllByRecursion as All}
+use Rattle.std.specs.List.{AllByRecursion}
 use Rattle.fields.specs.Arithmetic.{Arithmetic, total, inverted}
 use Rattle.fields.specs.Binary.{bytes}
 use Rattle.fields.specs.Primes.{residues}
@@ -85,4 +85,4 @@ examples =
 
 -- every worked example holds
 abbrev pub ExamplesHold : Type 0
-ExamplesHold = All Holds examples
+ExamplesHold = AllByRecursion Holds examples
