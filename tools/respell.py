@@ -20,6 +20,8 @@ TOKEN = re.compile(NAME)
 LIBRARY = {"length", "get_or", "take", "drop", "set", "map", "sum", "replicate", "append"}
 # names of ours whose parts were respelled by the library
 PARTS = {"getD": "get_or", "putMid": "put_mid"}
+# functions that lemmas of other files begin with by chance
+NOT_HEADS = {"same", "passes"}
 # names that would fall together with a function of src/
 OTHERWISE = {"first-root": "first_root_of"}
 
@@ -59,7 +61,7 @@ def respelled(name, kind, functions):
     if kind == "lemma":
         for k in range(len(parts) - 1, 0, -1):
             head = snake("-".join(parts[:k]))
-            if head in functions:
+            if head in functions and head not in NOT_HEADS:
                 return head + "-" + snake("-".join(parts[k:]))
     return snake("-".join(parts))
 

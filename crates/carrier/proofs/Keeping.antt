@@ -72,8 +72,8 @@ same_at n D q b p place s ne = go (ltb p n && vacant (get_or b p None) && eqb (l
     go true = get_or-set_other b p place (Some s) None ne
     go false = refl
 
-same-struck : (n D q : ℕ) (b : Book) (p place : ℕ) → (place ≡ p → ⊥) → get_or (after n D q b (strike p)) place None ≡ get_or b place None
-same-struck n D q b p place ne = go (ltb p n && filled (get_or b p None))
+same_struck : (n D q : ℕ) (b : Book) (p place : ℕ) → (place ≡ p → ⊥) → get_or (after n D q b (strike p)) place None ≡ get_or b place None
+same_struck n D q b p place ne = go (ltb p n && filled (get_or b p None))
   where
     go : (t : Bool) → get_or (cond t (set b p None) b) place None ≡ get_or b place None
     go true = get_or-set_other b p place None None ne
@@ -134,7 +134,7 @@ step n D q b (read x y) cs place strip l h = inl (h.0, (not_read place x y, h.1)
 step n D q b (strike p) cs place strip l h =
     elim (same_number place p) [
       | inl e ↦ (let x = emptied n D q b p l in let h0 : get_or (after n D q b (strike p)) p None ≡ Some strip = subst (λ (t : ℕ). get_or (after n D q b (strike p)) t None ≡ Some strip) e h.0 in let z : ◌≡◌ {A = ℕ} 0 1 = cc in absurd (omega arith))
-      | inr ne ↦ inl (sym (same-struck n D q b p place ne) ∙ h.0, ((λ e. ne (cc)), h.1))
+      | inr ne ↦ inl (sym (same_struck n D q b p place ne) ∙ h.0, ((λ e. ne (cc)), h.1))
     ]
 step n D q b (deliver p s) cs place strip l h =
     elim (same_number place p) [
@@ -173,7 +173,7 @@ came n D q b (c ∷ cs) place strip l e =
 -- a strip stays until it is struck
 stays_one : (n D q : ℕ) (b : Book) (c : Call) (place : ℕ) (strip : List ℕ) → c ≢ strike place → get_or b place None ≡ Some strip → get_or (after n D q b c) place None ≡ Some strip
 stays_one n D q b (read x y) place strip ne e = e
-stays_one n D q b (strike p) place strip ne e = same-struck n D q b p place (λ x. ne (cc)) ∙ e
+stays_one n D q b (strike p) place strip ne e = same_struck n D q b p place (λ x. ne (cc)) ∙ e
 stays_one n D q b (deliver p s) place strip ne e =
     elim (same_number place p) [
       | inr x ↦ same_at n D q b p place s x ∙ e

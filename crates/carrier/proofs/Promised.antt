@@ -152,8 +152,8 @@ right_passes m need D page scratch r = go (fit_check m D) (length page) (length 
     go : (f : Check CollectorFault) (asked lent k : ℕ) → f ≡ Ok tt → asked ≡ D * k → need ≤ lent → and_then f (records.reading D k need asked lent) ≡ Ok tt
     go f asked lent k e c d = rw e (grind (arith, nat_tests))
 
-pub passes-right : (m : Meaning) (need D : ℕ) (page scratch : List ℕ) → read_check m need D (length page) (length scratch) ≡ Ok tt → Right m need D page scratch
-passes-right m need D page scratch e =
+pub passes_right : (m : Meaning) (need D : ℕ) (page scratch : List ℕ) → read_check m need D (length page) (length scratch) ≡ Ok tt → Right m need D page scratch
+passes_right m need D page scratch e =
     let p = records.passed (fit_check m D) D m.dimension need (length page) (length scratch) e in
     record { fit = fitted m D p.fits; page_long = p.long; scratch_long = p.lends }
 
@@ -189,7 +189,7 @@ module _ (m : Meaning) (need D : ℕ) (cs : List Call) (answers : List Reply) (l
 
   turned_down : (i : ℕ) (page scratch : List ℕ) (c : Check CollectorFault) → read_check m need D (length page) (length scratch) ≡ c → At i cs (read page scratch) → (Right m need D page scratch → ⊥) →
       (f : CollectorFault) × (read_check m need D (length page) (length scratch) ≡ Err f) × At i answers (sheet (Err f) page scratch)
-  turned_down i page scratch (Ok u) e at unfit = absurd (unfit (passes-right m need D page scratch e))
+  turned_down i page scratch (Ok u) e at unfit = absurd (unfit (passes_right m need D page scratch e))
   turned_down i page scratch (Err f) e at unfit = let r = answer_at m need D (replicate m.long None) cs answers run i (read page scratch) at in (f, e, declined-at i page scratch f e r.answer r.stands r.says)
 
   delivers-at : (i place : ℕ) (strip : List ℕ) (a : Reply) → At i answers a → Answered m need D (book_at m D cs i) (deliver place strip) a →

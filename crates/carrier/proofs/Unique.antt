@@ -25,18 +25,18 @@ test false = inr refl
 same_number : (x y : ℕ) → (x ≡ y) ⊎ (x ≡ y → ⊥)
 same_number x y = elim (test (eqb x y)) [ inl t ↦ inl (grind (arith, nat_tests)) | inr t ↦ inr (λ e. grind (arith, nat_tests)) ]
 
-same-list : (xs ys : List ℕ) → (xs ≡ ys) ⊎ (xs ≡ ys → ⊥)
-same-list [] [] = inl refl
-same-list [] (y ∷ ys) = inr (λ e. let z : ◌≡◌ {A = ℕ} 0 1 = cc in omega arith)
-same-list (x ∷ xs) [] = inr (λ e. let z : ◌≡◌ {A = ℕ} 0 1 = cc in omega arith)
-same-list (x ∷ xs) (y ∷ ys) =
+same_list : (xs ys : List ℕ) → (xs ≡ ys) ⊎ (xs ≡ ys → ⊥)
+same_list [] [] = inl refl
+same_list [] (y ∷ ys) = inr (λ e. let z : ◌≡◌ {A = ℕ} 0 1 = cc in omega arith)
+same_list (x ∷ xs) [] = inr (λ e. let z : ◌≡◌ {A = ℕ} 0 1 = cc in omega arith)
+same_list (x ∷ xs) (y ∷ ys) =
     elim (same_number x y) [
-      | inl a ↦ elim (same-list xs ys) [ inl b ↦ inl (cc) | inr b ↦ inr (λ e. b (cc)) ]
+      | inl a ↦ elim (same_list xs ys) [ inl b ↦ inl (cc) | inr b ↦ inr (λ e. b (cc)) ]
       | inr a ↦ inr (λ e. a (cc))
     ]
 
 stable : (xs ys : List ℕ) → ((xs ≡ ys → ⊥) → ⊥) → xs ≡ ys
-stable xs ys h = elim (same-list xs ys) [ inl e ↦ e | inr n ↦ absurd (h n) ]
+stable xs ys h = elim (same_list xs ys) [ inl e ↦ e | inr n ↦ absurd (h n) ]
 
 same_rows : (k : ℕ) (s t : List ℕ) (i : ℕ) → ((j : ℕ) → j < i → row k j s ≡ row k j t) → take (i * k) s ≡ take (i * k) t
 same_rows k s t zero h = let e : zero * k ≡ zero = omega arith in rw e refl

@@ -19,15 +19,15 @@ length-present (suc m ∷ ms) (x ∷ xs) e =
 turned : (x y : ℕ) → cond {A = ℕ} (x == y) 0 1 ≡ cond (y == x) 0 1
 turned x y = grind (arith, nat_tests)
 
-pub same-wrong : (f : ℕ → ℕ) (ps rs ms : List ℕ) → length ps ≡ length ms → length rs ≡ length ms → differ (map f (present ms ps)) (present ms rs) ≡ wrong rs ms (map f ps)
-same-wrong f [] [] [] a b = refl
-same-wrong f [] (r ∷ rs) [] a b = absurd (omega arith)
-same-wrong f (p ∷ ps) rs [] a b = absurd (omega arith)
-same-wrong f [] rs (m ∷ ms) a b = absurd (omega arith)
-same-wrong f (p ∷ ps) [] (m ∷ ms) a b = absurd (omega arith)
-same-wrong f (p ∷ ps) (r ∷ rs) (zero ∷ ms) a b = omega (arith, turned (f p) r, same-wrong f ps rs ms (omega arith) (omega arith))
-same-wrong f (p ∷ ps) (r ∷ rs) (suc m ∷ ms) a b =
-    let o : cond {A = ℕ} (suc m == 0) (cond (r == f p) 0 1) 0 ≡ 0 = grind (arith, nat_tests) in omega (arith, same-wrong f ps rs ms (omega arith) (omega arith))
+pub same_wrong : (f : ℕ → ℕ) (ps rs ms : List ℕ) → length ps ≡ length ms → length rs ≡ length ms → differ (map f (present ms ps)) (present ms rs) ≡ wrong rs ms (map f ps)
+same_wrong f [] [] [] a b = refl
+same_wrong f [] (r ∷ rs) [] a b = absurd (omega arith)
+same_wrong f (p ∷ ps) rs [] a b = absurd (omega arith)
+same_wrong f [] rs (m ∷ ms) a b = absurd (omega arith)
+same_wrong f (p ∷ ps) [] (m ∷ ms) a b = absurd (omega arith)
+same_wrong f (p ∷ ps) (r ∷ rs) (zero ∷ ms) a b = omega (arith, turned (f p) r, same_wrong f ps rs ms (omega arith) (omega arith))
+same_wrong f (p ∷ ps) (r ∷ rs) (suc m ∷ ms) a b =
+    let o : cond {A = ℕ} (suc m == 0) (cond (r == f p) 0 1) 0 ≡ 0 = grind (arith, nat_tests) in omega (arith, same_wrong f ps rs ms (omega arith) (omega arith))
 
 pub unmarked_present : (q i : ℕ) (rs ms : List ℕ) → unmarked_check q i rs ms ≡ Ok tt → Below q (present ms rs)
 unmarked_present q i [] [] e = tt

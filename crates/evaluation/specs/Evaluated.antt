@@ -18,7 +18,7 @@ use Rattle.codes.specs.declared.fault.CodeFault.TheVariants.{Reach}
 use Rattle.evaluation.specs.Decoding.{present, Near, Located}
 use Rattle.evaluation.specs.Evaluation.{evaluation, evaluation_fit, Proper, Evaluates}
 use Rattle.evaluation.specs.Checked.{fit-proper, proper_fit}
-use Rattle.evaluation.specs.Counted.{length-present, same-wrong}
+use Rattle.evaluation.specs.Counted.{length-present, same_wrong}
 
 all_of : (P : ℕ → Type 0) (f : ℕ → ℕ) → ((x : ℕ) → P (f x)) → (xs : List ℕ) → AllByRecursion P (map f xs)
 all_of P f h [] = tt
@@ -56,7 +56,7 @@ module _ (F : Arithmetic) (points rs ms old new : List ℕ) (ep : length points 
   ys = present ms rs
 
   counts : (m : List ℕ) → wrong rs ms (word (total F) points m) ≡ differ (word (total F) xs m) ys
-  counts m = sym (same-wrong (value (total F) m) points rs ms ep er)
+  counts m = sym (same_wrong (value (total F) m) points rs ms ep er)
 
   -- near the received numbers is within reach
   pub solved-ok : (e : ℕ) → Located (total F) xs ys old new (Ok tt) → e ≡ wrong rs ms (word (total F) points new) → Solved (evaluation F (length points) (length old) points) rs ms old new (Ok e)

@@ -39,9 +39,9 @@ no_small p h d k big small few e =
 le_or_lt : (a b : ℕ) → (a ≤ b) ⊎ (b < a)
 le_or_lt a b = elim (dec_le a b) [ yes h ↦ inl h | no h ↦ inr (lt_of_not-le h) ]
 
-passes-prime : (p : ℕ) → T (passes p) → IsPrime p
+passes_prime : (p : ℕ) → T (passes p) → IsPrime p
 unfolding passes
-passes-prime p h =
+passes_prime p h =
     let more : 1 < p = ltb→lt 1 p (and_left (nat_lt 1 p) _ h) in
     let rest = and_right (nat_lt 1 p) _ h in
     let few : p < 65536 = ltb→lt p 65536 (and_left (nat_lt p 65536) _ rest) in
@@ -67,7 +67,7 @@ prime_in : (n : ℕ) (ms : List ℕ) → T (all_pass ms) → T (among n ms) → 
 prime_in n [] h t = absurd t
 prime_in n (m ∷ ms) h t =
     elim (or_cases (n == m) (among n ms) t) [
-      | inl u ↦ subst IsPrime (sym (eqb→eq n m u)) (passes-prime m (and_left (passes m) (all_pass ms) h))
+      | inl u ↦ subst IsPrime (sym (eqb→eq n m u)) (passes_prime m (and_left (passes m) (all_pass ms) h))
       | inr u ↦ prime_in n ms (and_right (passes m) (all_pass ms) h) u
     ]
 

@@ -102,18 +102,18 @@ sound-of h M f =
     sound-over h (field_of h) M (λ F e. lawful (eqb h.kind 1) (listed h.modulus) (eqb h.kind 2 && eqb h.modulus 285) h.modulus F refl e) f.code
     (fits M.fitness h.depth f.fit).code
 
-same-list : (xs ys : List ℕ) → (xs ≡ ys) ⊎ (xs ≡ ys → ⊥)
-same-list [] [] = inl refl
-same-list [] (y ∷ ys) = inr (λ e. let z : ◌≡◌ {A = ℕ} 0 1 = cc in omega arith)
-same-list (x ∷ xs) [] = inr (λ e. let z : ◌≡◌ {A = ℕ} 0 1 = cc in omega arith)
-same-list (x ∷ xs) (y ∷ ys) =
+same_list : (xs ys : List ℕ) → (xs ≡ ys) ⊎ (xs ≡ ys → ⊥)
+same_list [] [] = inl refl
+same_list [] (y ∷ ys) = inr (λ e. let z : ◌≡◌ {A = ℕ} 0 1 = cc in omega arith)
+same_list (x ∷ xs) [] = inr (λ e. let z : ◌≡◌ {A = ℕ} 0 1 = cc in omega arith)
+same_list (x ∷ xs) (y ∷ ys) =
     elim (cases_eq x y) [
-      | inl a ↦ elim (same-list xs ys) [ inl b ↦ inl (cc) | inr b ↦ inr (λ e. b (cc)) ]
+      | inl a ↦ elim (same_list xs ys) [ inl b ↦ inl (cc) | inr b ↦ inr (λ e. b (cc)) ]
       | inr a ↦ inr (λ e. a (cc))
     ]
 
 stable : (xs ys : List ℕ) → ((xs ≡ ys → ⊥) → ⊥) → xs ≡ ys
-stable xs ys h = elim (same-list xs ys) [ inl e ↦ e | inr n ↦ absurd (h n) ]
+stable xs ys h = elim (same_list xs ys) [ inl e ↦ e | inr n ↦ absurd (h n) ]
 
 differ_self : (xs : List ℕ) → differ xs xs ≡ 0
 differ_self [] = refl
@@ -142,8 +142,8 @@ message M D i s l b h =
     let w = within i D k h in
     record { long = simp (length-take, length-drop) (omega arith); below = All-take (λ x. x < M.order) k (drop (i * k) s) (All-drop (λ x. x < M.order) (i * k) s b) }
 
-same-sheet : (M : Meaning) (D : ℕ) (s t : List ℕ) → Sound M → length s ≡ D * M.dimension → Below M.order s → length t ≡ D * M.dimension → Below M.order t → strips_of_sheet M D s ≡ strips_of_sheet M D t → s ≡ t
-same-sheet M D s t law ls bs lt bt e =
+same_sheet : (M : Meaning) (D : ℕ) (s t : List ℕ) → Sound M → length s ≡ D * M.dimension → Below M.order s → length t ≡ D * M.dimension → Below M.order t → strips_of_sheet M D s ≡ strips_of_sheet M D t → s ≡ t
+same_sheet M D s t law ls bs lt bt e =
     let k = M.dimension in
     let word = M.word in
     let rows : (i : ℕ) → i < D → row k i s ≡ row k i t = λ i h.
@@ -167,5 +167,5 @@ apart h h' M M' s s' a b e =
     let one = alone h h' ss ss' (file_bytes h ss) f f' in
     let codes_same : M' ≡ M = same_code h' h M' M one.0 b.fitting.code a.fitting.code in
     let P : Heading → Meaning → Type 0 = λ x m. SheetFor x m s' → ss ≡ strips_of_sheet m x.depth s' → s ≡ s' in
-    let at : P h M = λ b' e'. same-sheet M h.depth s s' (sound-of h M a.fitting) a.long a.below b'.long b'.below e' in
+    let at : P h M = λ b' e'. same_sheet M h.depth s s' (sound-of h M a.fitting) a.long a.below b'.long b'.below e' in
     (sym one.0, subst (λ (x : Heading). P x M') (sym one.0) (subst (λ (m : Meaning). P h m) (sym codes_same) at) b (sym one.1))

@@ -43,20 +43,20 @@ module _ (F : Arithmetic) (L : Laws F) (xs : List ℕ) (M : Meaning) (s : Sound 
     qs = quotients (total F) xs rs ms
 
     -- a message is as wrong above as its quotients are below
-    same-wrong : (m : List ℕ) → Message M m → wrong rs ms (products (total F) xs (M.word m)) ≡ wrong qs ms (M.word m)
-    same-wrong m h = wrong-quotients (total F) (total-laws F L) 0 xs rs ms (M.word m) units' (subst (λ (q : ℕ). unmarked_check q 0 rs ms ≡ Ok tt) (sym p.order) good)
+    same_wrong : (m : List ℕ) → Message M m → wrong rs ms (products (total F) xs (M.word m)) ≡ wrong qs ms (M.word m)
+    same_wrong m h = wrong-quotients (total F) (total-laws F L) 0 xs rs ms (M.word m) units' (subst (λ (q : ℕ). unmarked_check q 0 rs ms ≡ Ok tt) (sym p.order) good)
         (subst (λ (q : ℕ). Below q (M.word m)) (sym p.order) (s.word_below m h)) (p.counted ∙ sym em) (er ∙ sym em)
 
     up : (m : List ℕ) → Reached M qs ms m → Reached (scaled F xs M) rs ms m
-    up m h = record { message = record { long = h.message.long; below = h.message.below }; near = omega (arith, h.near, same-wrong m h.message) }
+    up m h = record { message = record { long = h.message.long; below = h.message.below }; near = omega (arith, h.near, same_wrong m h.message) }
 
     down : (m : List ℕ) → Reached (scaled F xs M) rs ms m → Reached M qs ms m
     down m h =
         let k : Message M m = record { long = h.message.long; below = h.message.below } in
-        record { message = k; near = omega (arith, h.near, same-wrong m k) }
+        record { message = k; near = omega (arith, h.near, same_wrong m k) }
 
     solved-up : (old new : List ℕ) (r : Result ℕ CodeFault) → Solved M qs ms old new r → Solved (scaled F xs M) rs ms old new r
-    solved-up old new (Ok e) h = record { reached = up new h.reached; counted = h.counted ∙ sym (same-wrong new h.reached.message) }
+    solved-up old new (Ok e) h = record { reached = up new h.reached; counted = h.counted ∙ sym (same_wrong new h.reached.message) }
     solved-up old new (Err f) h = record { fault = h.fault; unchanged = h.unchanged; none = λ m k. h.none m (down m k) }
 
     below-passes : (room lent : ℕ) → room ≡ M.dimension → need ≤ lent → decode_check M need qs ms room lent ≡ Ok tt

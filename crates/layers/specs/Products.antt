@@ -37,8 +37,8 @@ more_written n f i v xs h e w =
       left = λ k b. let ne : k ≢ i = omega arith in get_or-set_other xs i k v 0 ne ∙ w.left k (omega arith);
     }
 
-pub same-written : (n : ℕ) (f : ℕ → ℕ) (i : ℕ) (xs : List ℕ) → f i ≡ 0 → Written n f i xs → Written n f (i + 1) xs
-same-written n f i xs e w = record {
+pub same_written : (n : ℕ) (f : ℕ → ℕ) (i : ℕ) (xs : List ℕ) → f i ≡ 0 → Written n f i xs → Written n f (i + 1) xs
+same_written n f i xs e w = record {
   long = w.long;
   done = below_more _ _ w.done (w.left i (omega arith) ∙ sym e);
   left = λ k b. w.left k (omega arith);

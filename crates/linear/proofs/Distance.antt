@@ -48,10 +48,10 @@ module _ (F : Arithmetic) (L : TotalLaws F) where
   roots_of p s (x ∷ xs) h = (Values.value-minus F L p s x (eqb-true _ _ h.0), roots_of p s xs h.1)
 
   -- messages that agree in as many points as they have numbers are one
-  pub same-message : (p s points : List ℕ) → length p ≡ length s → Below F.order p → Below F.order s → Distinct points → Below F.order points → length p ≤ length (filter (agree p s) points) → p ≡ s
-  same-message p s points e hp hs ds hx le =
+  pub same_message : (p s points : List ℕ) → length p ≡ length s → Below F.order p → Below F.order s → Distinct points → Below F.order points → length p ≤ length (filter (agree p s) points) → p ≡ s
+  same_message p s points e hp hs ds hx le =
       let kept = filter (agree p s) points in
-      Values.same-from_minus F L p s e hp hs
+      Values.same_from_minus F L p s e hp hs
       (Roots.roots_bound F L kept (Values.minus F L p s) (kept-distinct (agree p s) points ds) (kept-all (λ x. x < F.order) (agree p s) points hx)
       (Values.added-below F L p _ hp (Values.scaled-below F L (F.opposite 1) s)) (roots_of p s kept (kept-passes (agree p s) points))
       (omega (arith, Values.length-added F L p (scaled F (F.opposite 1) s), length-map s (F.times (F.opposite 1)))))
@@ -61,5 +61,5 @@ module _ (F : Arithmetic) (L : TotalLaws F) where
   words_apart p s points k ep es hp hs ds hx apart = go (dec_le k (length (filter (agree p s) points)))
     where
       go : Dec (k ≤ length (filter (agree p s) points)) → length points + 1 ≤ differ (word F points p) (word F points s) + k
-      go (yes le) = absurd (apart (same-message p s points (omega arith) hp hs ds hx (omega arith)))
+      go (yes le) = absurd (apart (same_message p s points (omega arith) hp hs ds hx (omega arith)))
       go (no more) = omega (arith, agreeing p s points)

@@ -122,7 +122,7 @@ module _ (F : Arithmetic) (L : TotalLaws F) where
       let z : Zeros (added F (product F x s) y) =
       subst Zeros (sym (Coefficients.minus-divided F L a b c d s)) (Coefficients.zeros_minus F L (added F (product F a s) b) (added F (product F c s) d) cd-below (λ k. sym (pa k) ∙ pc k)) in
       let both : Zeros x × Zeros y = zero-alone lead s S x y x_below y-below y-short z in
-      (Values.same-from_minus F L a c ea ha hc both.0, Values.same-from_minus F L b d eb hb hd both.1)
+      (Values.same_from_minus F L a c ea ha hc both.0, Values.same_from_minus F L b d eb hb hd both.1)
 
   -- x - (x / a) a = 0
   quotient-takes : (x a : ℕ) → x < q → a < q → a ≢ 0 → x ⊕ neg (x ⊗ inv a) ⊗ a ≡ 0

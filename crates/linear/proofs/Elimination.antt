@@ -98,17 +98,17 @@ module _ (F : Arithmetic) (L : TotalLaws F) where
     rest-long : (k : ℕ) → k < n → length (row w k rest) ≡ w
     rest-long k l = length-row w k rest (omega (arith, row_ends k n w l))
 
-    same-long : (k : ℕ) → k < n → length first ≡ length (row w k rest)
-    same-long k l = first-long ∙ sym (rest-long k l)
+    same_long : (k : ℕ) → k < n → length first ≡ length (row w k rest)
+    same_long k l = first-long ∙ sym (rest-long k l)
 
     pub rest-grid : Grid F w n rest'
-    rest-grid k l = subst (Below q) (sym (C.clear k l)) (Kernel.reduced-below F L (row w k rest) first (get_or (row w k rest) c 0) (same-long k l))
+    rest-grid k l = subst (Below q) (sym (C.clear k l)) (Kernel.reduced-below F L (row w k rest) first (get_or (row w k rest) c 0) (same_long k l))
 
     rest-zero : (k : ℕ) → k < n → get_or (row w k rest') c 0 ≡ 0
     rest-zero k l =
         let e = rest-long k l in
         ap (λ r. get_or r c 0) (C.clear k l)
-        ∙ cleared c (row w k rest) first (same-long k l) (omega arith) (All-get_or (λ x. x < q) (row w k rest) c 0 (omega arith) (C.grid k l)) first_one
+        ∙ cleared c (row w k rest) first (same_long k l) (omega arith) (All-get_or (λ x. x < q) (row w k rest) c 0 (omega arith) (C.grid k l)) first_one
 
     -- what solves the rest from the next column on, with the first row's answer before it, solves all
     pub step_solves : (v : List ℕ) → Solves F w (c + 1) n rest' v → Solves F w c (suc n) (top ++ rest) (neg (dot F (drop (c + 1) first) v) ∷ v)
@@ -127,5 +127,5 @@ module _ (F : Arithmetic) (L : TotalLaws F) where
         let one : dot F (drop c first) u ≡ 0 = under_one c first v (omega (arith, first-long)) first_one in
         let done : dot F (drop c (row w k rest')) u ≡ 0 = under_zero c (neg (dot F (drop (c + 1) first) v)) (row w k rest') v (omega arith) (rest-zero k kn) (h k kn) in
         ap (λ t. dot F (drop c t) u) (row-rest w k top rest C.wide)
-        ∙ Kernel.solves-reduced F L (drop c r) (drop c first) u b (omega (arith, length-drop c first, length-drop c r, same-long k kn))
+        ∙ Kernel.solves-reduced F L (drop c r) (drop c first) u b (omega (arith, length-drop c first, length-drop c r, same_long k kn))
         (ap (λ t. dot F t u) (sym (ap (drop c) (C.clear k kn) ∙ Kernel.drop-reduced F c r b first)) ∙ done) one

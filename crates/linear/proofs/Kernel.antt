@@ -91,11 +91,11 @@ module _ (F : Arithmetic) (L : TotalLaws F) where
     other_ends : suc k * w + w ≤ length s
     other_ends = omega (arith, row_ends (suc k) n w within)
 
-    same-long : length (row w (suc k) s) ≡ length (row w 0 s)
-    same-long = length-row w (suc k) s other_ends ∙ sym (length-row w 0 s first_ends)
+    same_long : length (row w (suc k) s) ≡ length (row w 0 s)
+    same_long = length-row w (suc k) s other_ends ∙ sym (length-row w 0 s first_ends)
 
     ys-long : length ys ≡ w
-    ys-long = ap length is ∙ length-added F (neg 1) (row w 0 s) (row w (suc k) s) same-long ∙ length-row w 0 s first_ends
+    ys-long = ap length is ∙ length-added F (neg 1) (row w 0 s) (row w (suc k) s) same_long ∙ length-row w 0 s first_ends
 
     raised_other : (i : ℕ) → row w (suc i) (ys ++ drop w s) ≡ row w (suc i) s
     raised_other i = row-rest w i ys (drop w s) ys-long ∙ sym (row-suc w i s)
@@ -108,11 +108,11 @@ module _ (F : Arithmetic) (L : TotalLaws F) where
         let p : dot F (drop c (row w (suc k) s)) u ≡ 0 = ap (λ r. dot F (drop c r) u) (sym (raised_other k)) ∙ h (suc k) within in
         let r : dot F (reduced F (drop c (row w 0 s)) 1 (drop c (row w (suc k) s))) u ≡ 0 =
         ap (λ t. dot F t u) (sym (ap (drop c) raised_first ∙ drop-reduced F c (row w 0 s) 1 (row w (suc k) s))) ∙ h 0 l in
-        solves-reduced (drop c (row w 0 s)) (drop c (row w (suc k) s)) u 1 (omega (arith, length-drop c (row w (suc k) s), length-drop c (row w 0 s), same-long)) r p
+        solves-reduced (drop c (row w 0 s)) (drop c (row w (suc k) s)) u 1 (omega (arith, length-drop c (row w (suc k) s), length-drop c (row w 0 s), same_long)) r p
     raised_keeps u h (suc i) l = ap (λ r. dot F (drop c r) u) (sym (raised_other i)) ∙ h (suc i) l
 
     pub raised_grid : Grid F w n s → Grid F w n (ys ++ drop w s)
-    raised_grid h zero l = subst (Below q) (sym raised_first) (reduced-below (row w 0 s) (row w (suc k) s) 1 same-long)
+    raised_grid h zero l = subst (Below q) (sym raised_first) (reduced-below (row w 0 s) (row w (suc k) s) 1 same_long)
     raised_grid h (suc i) l = subst (Below q) (sym (raised_other i)) (h (suc i) l)
 
     pub raised_lead : c < w → Grid F w n s → get_or (row w 0 s) c 0 ≡ 0 → get_or (row w (suc k) s) c 0 ≢ 0 → get_or (ys ++ drop w s) c 0 ≢ 0
@@ -120,6 +120,6 @@ module _ (F : Arithmetic) (L : TotalLaws F) where
         let x = get_or (row w (suc k) s) c 0 in
         let xq : x < q = All-get_or (λ v. v < q) (row w (suc k) s) c 0 (omega (arith, length-row w (suc k) s other_ends)) (h (suc k) within) in
         let at : get_or ys c 0 ≡ 0 ⊕ neg 1 ⊗ x =
-        ap (λ r. get_or r c 0) is ∙ get_or-added F (neg 1) (row w 0 s) (row w (suc k) s) c same-long (omega (arith, length-row w 0 s first_ends)) ∙ ap (λ v. v ⊕ neg 1 ⊗ x) z in
+        ap (λ r. get_or r c 0) is ∙ get_or-added F (neg 1) (row w 0 s) (row w (suc k) s) c same_long (omega (arith, length-row w 0 s first_ends)) ∙ ap (λ v. v ⊕ neg 1 ⊗ x) z in
         nz (Algebra.no_divisor F L (neg 1) x (L.opposite_below 1) neg_one xq
         (sym (Algebra.zero-plus F L (neg 1 ⊗ x) (L.times_below (neg 1) x)) ∙ sym at ∙ sym (get_or_append_left ys (drop w s) 0 c (omega (arith, ys-long))) ∙ e))

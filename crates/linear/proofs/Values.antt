@@ -68,11 +68,11 @@ module _ (F : Arithmetic) (L : TotalLaws F) where
   abbrev pub minus : List ℕ → List ℕ → List ℕ
   minus p s = added F p (scaled F (neg 1) s)
 
-  pub same-from_minus : (p s : List ℕ) → length p ≡ length s → Below q p → Below q s → Zeros (minus p s) → p ≡ s
-  same-from_minus [] [] e hp hs z = refl
-  same-from_minus [] (b ∷ s) e hp hs z = absurd (omega arith)
-  same-from_minus (a ∷ p) [] e hp hs z = absurd (omega arith)
-  same-from_minus (a ∷ p) (b ∷ s) e hp hs z = ap₂ ◌∷◌ (minus_one a b hp.0 hs.0 z.0) (same-from_minus p s (omega arith) hp.1 hs.1 z.1)
+  pub same_from_minus : (p s : List ℕ) → length p ≡ length s → Below q p → Below q s → Zeros (minus p s) → p ≡ s
+  same_from_minus [] [] e hp hs z = refl
+  same_from_minus [] (b ∷ s) e hp hs z = absurd (omega arith)
+  same_from_minus (a ∷ p) [] e hp hs z = absurd (omega arith)
+  same_from_minus (a ∷ p) (b ∷ s) e hp hs z = ap₂ ◌∷◌ (minus_one a b hp.0 hs.0 z.0) (same_from_minus p s (omega arith) hp.1 hs.1 z.1)
 
   pub value-minus : (p s : List ℕ) (x : ℕ) → value F p x ≡ value F s x → value F (minus p s) x ≡ 0
   value-minus p s x e =

@@ -3,7 +3,7 @@ use Rattle.std.proofs.ByRecursion.{All-get_or}
 use Rattle.std.proofs.lemmas.List.{ext_get_or, get_or-take, length-take-le}
 use Rattle.fields.specs.Arithmetic.{total}
 use Rattle.layers.specs.Scaled.{quotients}
-use Rattle.layers.specs.Products.{none_written, more_written, same-written, quotient_at, at-unmarked, at-marked, length-quotients, get_or-quotients}
+use Rattle.layers.specs.Products.{none_written, more_written, same_written, quotient_at, at-unmarked, at-marked, length-quotients, get_or-quotients}
 use Rattle.layers.proofs.scaling.divide_word.Goals as goal
 use Rattle.layers.proofs.scaling.divide_word.Goals.{then-mark-eq0, else-mark-eq0}
 
@@ -29,7 +29,7 @@ loop-i-preserved g c =
     let h : i < 128 = omega arith in
     elim c.if-mark-eq0.branch [
       | then-mark-eq0 w ↦ rw w.word-is (more_written 128 (quotient_at F xs rs ms) i w.divide.result c.loop-i.word h (at-unmarked F xs rs ms i w.at.result w.divide.result w.if-mark-eq0.true w.at.ensures w.divide.ensures) c.loop-i.invariant)
-      | else-mark-eq0 w ↦ rw w.word-is (same-written 128 (quotient_at F xs rs ms) i c.loop-i.word (at-marked F xs rs ms i w.if-mark-eq0.false) c.loop-i.invariant)
+      | else-mark-eq0 w ↦ rw w.word-is (same_written 128 (quotient_at F xs rs ms) i c.loop-i.word (at-marked F xs rs ms i w.if-mark-eq0.false) c.loop-i.invariant)
     ]
 
 pub returns : goal.returns
