@@ -1,5 +1,5 @@
 -- The records follow the book, and the book holds numbers below q alone.
-use Rattle.std.proofs.Common.{◌≡◌, ℕ, zero, suc, ◌+◌, ◌<◌, Bool, true, false, cond, ◌&&◌, eqb, ltb, ◌⊎◌, List, [], ◌∷◌, length, get_or, set, replicate, Some, None, Ok, Err, sym, refl, ap, ◌∙◌, subst, inl, inr, arith}
+use Rattle.std.proofs.Common.{◌≡◌, ℕ, zero, suc, ◌+◌, ◌<◌, Bool, true, false, cond, ◌&&◌, eqb, ltb, ◌⊎◌, List, [], ◌∷◌, length, get_or, set, replicate, Some, None, Ok, Err, sym, refl, inl, inr, arith}
 use Rattle.std.proofs.ByRecursion.{All-get_or}
 use Rattle.std.proofs.lemmas.Bool.Decides.{nat_tests}
 use Rattle.fields.specs.Numbers.{Below}
@@ -8,7 +8,7 @@ use Rattle.codes.specs.Checks.{number_check, unmarked_check}
 use Rattle.codes.specs.declared.fault.CodeFault.{CodeFault}
 use Rattle.carrier.specs.declared.fault.CollectorFault.{CollectorFault}
 use Rattle.carrier.specs.declared.fault.CollectorFault.TheVariants.{Place, StripLength, Taken, Vacant}
-use Rattle.carrier.specs.Book.{Book, Call, deliver, strike, read, after, booked, vacant, filled, all_below}
+use Rattle.carrier.specs.Book.{Book, deliver, strike, after, vacant, filled, all_below}
 use Rattle.carrier.specs.Checks.{from_code, entered}
 use Rattle.carrier.specs.Records.{BookBelow}
 use Rattle.carrier.specs.Sheets.{received, marks}

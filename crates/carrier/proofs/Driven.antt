@@ -1,9 +1,9 @@
 -- One more call after those that have led to a collector.
-use Rattle.std.proofs.Common.{◌≡◌, ℕ, List, [], ◌∷◌, ◌++◌, replicate, None, Ok, sym, refl, ap, ◌∙◌, subst}
+use Rattle.std.proofs.Common.{◌≡◌, ℕ, [], ◌∷◌, ◌++◌, replicate, None, Ok, sym, ap, ◌∙◌, subst}
 use Rattle.codes.specs.declared.interface.Issuer as issuer
 use Rattle.carrier.specs.declared.collector.Collector.{Collector}
 use Rattle.carrier.specs.Book.{Book, Call, after}
-use Rattle.carrier.specs.Driven.{Holds, Follows}
+use Rattle.carrier.specs.Driven.{Follows}
 use Rattle.carrier.specs.Promise.{Fit}
 use Rattle.carrier.specs.Records.{meaning_of, records_of, fitness_of, book_of, Left}
 use Rattle.carrier.proofs.Promised.{fit-passes}

@@ -1,8 +1,7 @@
 -- From what each answer of a run says of the records to what the run promises.
-use Rattle.std.proofs.Common.{◌≡◌, ℕ, zero, suc, ◌+◌, ◌*◌, ◌<◌, ◌≤◌, Bool, true, false, cond, not, eqb, ◌≢◌, ◌↔◌, List, [], ◌∷◌, length, get_or, take, drop, replicate, Some, None, Ok, Err, Option, Result, sym, refl, ap, ◌∙◌, subst, arith}
+use Rattle.std.proofs.Common.{◌≡◌, ℕ, zero, suc, ◌+◌, ◌*◌, ◌<◌, ◌≤◌, Bool, true, false, cond, not, eqb, ◌↔◌, List, [], ◌∷◌, length, get_or, take, drop, replicate, Some, None, Ok, Err, Option, Result, sym, refl, ap, ◌∙◌, subst, arith}
 use lib.ListN.{length-replicate}
 use Rattle.std.proofs.lemmas.Bool.Decides.{nat_tests}
-use Rattle.fields.specs.Numbers.{Below}
 use Rattle.fields.specs.Checks.{Check, and_then}
 use Rattle.codes.specs.Meaning.{Meaning, Message, Sound}
 use Rattle.codes.specs.Words.{wrong, missing}
@@ -10,13 +9,13 @@ use Rattle.codes.specs.declared.fault.CodeFault.TheVariants.{Reach}
 use Rattle.codes.proofs.Passed.{numbers-below, below-numbers}
 use Rattle.carrier.specs.declared.fault.CollectorFault.{CollectorFault}
 use Rattle.carrier.specs.declared.fault.CollectorFault.TheVariants.{Code}
-use Rattle.carrier.specs.Book.{Book, Call, deliver, strike, read, after, booked, book, vacant, filled}
-use Rattle.carrier.specs.Checks.{fit, fit_check, deliver_check, strike_check, read_check}
+use Rattle.carrier.specs.Book.{Book, Call, deliver, strike, read, after, booked, vacant, filled}
+use Rattle.carrier.specs.Checks.{fit_check, deliver_check, strike_check, read_check}
 use Rattle.carrier.specs.Faults.{number, row as row_of}
 use Rattle.carrier.specs.Replies.{Reply, delivered, struck, sheet, unanswered, refused}
-use Rattle.carrier.specs.Sheets.{received, marks, row, InReach, Within, wrongs}
+use Rattle.carrier.specs.Sheets.{received, marks, row, InReach, wrongs}
 use Rattle.carrier.specs.Steps.{Told, Checked, Answered, Run}
-use Rattle.carrier.specs.Promise.{At, count, count_pairs, book_at, CountedInReach, EachRow, FirstLost, differs, wrong_numbers, Fit, Takes, Gives, Right, Reading, ReadAt, Promise}
+use Rattle.carrier.specs.Promise.{At, count, count_pairs, book_at, CountedInReach, EachRow, FirstLost, differs, Fit, Takes, Gives, Right, Reading, ReadAt, Promise}
 use Rattle.carrier.proofs.Keeping.{book-keeps, booked-length}
 use Rattle.carrier.proofs.Records as records
 

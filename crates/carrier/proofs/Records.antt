@@ -11,7 +11,7 @@ use Rattle.codes.specs.declared.fault.FitnessFault.{FitnessFault}
 use Rattle.carrier.specs.declared.fault.CollectorFault.{CollectorFault}
 use Rattle.carrier.specs.declared.fault.CollectorFault.TheVariants.{Code, Place, StripLength, Taken, Vacant, SheetLength}
 use Rattle.carrier.specs.Book.{Book, filled, vacant}
-use Rattle.carrier.specs.Checks.{from_code, fit, fit_check, deliver_check, strike_check, read_check}
+use Rattle.carrier.specs.Checks.{from_code, fit, fit_check, deliver_check, strike_check}
 use Rattle.carrier.specs.Records.{records, held}
 
 pub map-step : {X : Type 0} (f : X → ℕ) (xs : List X) (ys : List ℕ) (i v : ℕ) (d : X) → i < length ys → i < length xs → take i ys ≡ map f (take i xs) → v ≡ f (get_or xs i d) → take (i + 1) (set ys i v) ≡ map f (take (i + 1) xs)

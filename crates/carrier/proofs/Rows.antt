@@ -1,16 +1,15 @@
 -- What the code's decode says of one row of the records, and of all.
-use Rattle.std.proofs.Common.{◌≡◌, ℕ, zero, suc, ◌+◌, ◌-◌, ◌*◌, ◌<◌, ◌≤◌, cond, eqb, leb, ◌⊎◌, List, [], ◌∷◌, map, length, take, drop, Some, None, Ok, Err, Option, Result, sym, refl, ap, ◌∙◌, subst, inl, inr, mul-le-mul_right, suc-mul, add-one, arith, length-take, get_or-take, below_more}
+use Rattle.std.proofs.Common.{◌≡◌, ℕ, zero, suc, ◌+◌, ◌-◌, ◌*◌, ◌<◌, ◌≤◌, cond, eqb, ◌⊎◌, List, [], ◌∷◌, map, length, take, drop, Some, None, Ok, Err, Option, Result, sym, refl, ap, ◌∙◌, subst, inl, inr, mul-le-mul_right, suc-mul, add-one, arith, length-take, get_or-take, below_more}
 use borrow.Rule.Slice.PartMut.{put_mid}
 use Rattle.std.proofs.lemmas.List.{length-map}
 use Rattle.std.proofs.lemmas.Slice.{between-put_mid, between_is, take-put_mid_below}
 use Rattle.std.proofs.lemmas.Bool.Decides.{nat_tests}
-use Rattle.fields.specs.Checks.{Check, unless}
-use Rattle.codes.specs.Checks.{when_fit, unmarked_check}
+use Rattle.fields.specs.Checks.{Check}
+use Rattle.codes.specs.Checks.{unmarked_check}
 use Rattle.codes.specs.Meaning.{Meaning, Reached, decode_check, Decided}
 use Rattle.codes.specs.Words.{wrong}
 use Rattle.codes.specs.declared.fault.CodeFault.{CodeFault}
 use Rattle.codes.specs.declared.fault.CodeFault.TheVariants.{Reach}
-use Rattle.codes.specs.declared.fault.FitnessFault.{FitnessFault}
 use Rattle.carrier.specs.Book.{Book}
 use Rattle.carrier.specs.Records.{records, held}
 use Rattle.carrier.specs.Sheets.{entry, mark, received, marks, row, InReach, wrongs}

@@ -1,8 +1,8 @@
 -- At most one sheet is within reach, and what a read tells of it.
-use Rattle.std.proofs.Common.{◌≡◌, ℕ, zero, suc, ◌+◌, ◌*◌, ◌<◌, ◌≤◌, Bool, true, false, eqb, ◌⊎◌, List, [], ◌∷◌, ◌++◌, length, take, replicate, None, Ok, Err, Result, sym, refl, ap, ◌∙◌, subst, inl, inr, suc-mul, arith, take_all, take-add}
+use Rattle.std.proofs.Common.{◌≡◌, ℕ, zero, suc, ◌*◌, ◌<◌, ◌≤◌, Bool, true, false, eqb, ◌⊎◌, List, [], ◌∷◌, ◌++◌, length, take, replicate, None, Ok, Err, Result, sym, refl, ap, ◌∙◌, subst, inl, inr, suc-mul, arith, take_all, take-add}
 use Rattle.std.proofs.lemmas.List.{length-map}
 use Rattle.std.proofs.lemmas.Bool.Decides.{nat_tests}
-use Rattle.fields.specs.Checks.{Check, and_then}
+use Rattle.fields.specs.Checks.{Check}
 use Rattle.codes.specs.Meaning.{Meaning, Sound}
 use Rattle.codes.specs.declared.fault.CodeFault.{CodeFault}
 use Rattle.codes.proofs.Reach.{one-reached}

@@ -1,5 +1,5 @@
 -- Checks one after another: the first that fails gives the fault.
-use Rattle.std.specs.Prelude.{ℕ, ◌+◌, Bool, cond, List, [], ◌∷◌, Ok, Err, ◌==◌, nat_lt}
+use Rattle.std.specs.Prelude.{ℕ, ◌+◌, cond, List, [], ◌∷◌, Ok, Err, ◌==◌, nat_lt}
 use Rattle.fields.specs.Checks.{Check, unless}
 use Rattle.codes.specs.declared.fault.CodeFault.{CodeFault}
 use Rattle.codes.specs.declared.fault.CodeFault.TheVariants.{Unfit, Number, Reach}

@@ -1,11 +1,10 @@
 -- The checks of the solver and of the division pass, and what a check for zeros says.
-use Rattle.std.proofs.Common.{◌≡◌, ℕ, zero, suc, ◌+◌, ◌*◌, ◌<◌, ◌≤◌, Bool, true, false, cond, eqb, ltb, leb, List, [], ◌∷◌, ◌++◌, length, take, drop, Some, None, Ok, Err, sym, refl, ap, ◌∙◌, subst, suc-mul, arith, length-drop}
+use Rattle.std.proofs.Common.{◌≡◌, ℕ, zero, suc, ◌+◌, ◌*◌, ◌<◌, ◌≤◌, Bool, true, false, eqb, ltb, leb, List, [], ◌∷◌, length, take, drop, None, Ok, Err, refl, subst, suc-mul, arith, length-drop}
 use Rattle.std.proofs.ByRecursion.{All-append}
 use Rattle.std.proofs.lemmas.List.{take-append-drop}
 use Rattle.std.proofs.lemmas.Bool.Decides.{nat_tests}
 use Rattle.fields.specs.Numbers.{Below, Zeros}
-use Rattle.fields.specs.Checks.{unless}
-use Rattle.linear.specs.Checks.{unless_found, stray, nonzero}
+use Rattle.linear.specs.Checks.{stray, nonzero}
 use Rattle.linear.specs.Division.{divide_check}
 use Rattle.linear.specs.Equations.{row, solve_check}
 use Rattle.linear.proofs.Grid.{row_zero, row-suc}

@@ -1,6 +1,6 @@
 -- The evaluation code is sound, and decodes what the equations give.
-use Rattle.std.specs.Prelude.{◌≡◌, ℕ, ◌+◌, ◌-◌, ◌*◌, ◌<◌, ◌≤◌, List, [], ◌∷◌, map, length, Ok, Err, Result, refl}
-use Rattle.std.proofs.Common.{sym, ap, subst, ◌∙◌, mul-le-mul, arith}
+use Rattle.std.specs.Prelude.{◌≡◌, ℕ, ◌+◌, ◌*◌, ◌<◌, ◌≤◌, List, [], ◌∷◌, map, length, Ok, Err, refl}
+use Rattle.std.proofs.Common.{sym, ◌∙◌, mul-le-mul, arith}
 use Rattle.std.proofs.lemmas.List.{get_or-map, length-map}
 use Rattle.std.specs.List.{AllByRecursion}
 use Rattle.fields.specs.Arithmetic.{Arithmetic, total}
@@ -10,12 +10,11 @@ use Rattle.fields.proofs.Total.{total-laws}
 use Rattle.linear.specs.Polynomials.{value, word}
 use Rattle.linear.proofs.Distance
 use Rattle.linear.proofs.Roots
-use Rattle.fields.specs.Checks.{Check}
-use Rattle.codes.specs.Meaning.{Meaning, Message, Reached, Sound, Solved}
-use Rattle.codes.specs.Words.{missing, wrong}
+use Rattle.codes.specs.Meaning.{Sound, Solved}
+use Rattle.codes.specs.Words.{wrong}
 use Rattle.codes.specs.declared.fault.CodeFault.{CodeFault}
 use Rattle.codes.specs.declared.fault.CodeFault.TheVariants.{Reach}
-use Rattle.evaluation.specs.Decoding.{present, Near, Located}
+use Rattle.evaluation.specs.Decoding.{present, Located}
 use Rattle.evaluation.specs.Evaluation.{evaluation, evaluation_fit, Proper, Evaluates}
 use Rattle.evaluation.specs.Checked.{fit-proper, proper_fit}
 use Rattle.evaluation.specs.Counted.{length-present, same_wrong}

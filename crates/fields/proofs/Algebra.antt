@@ -1,5 +1,5 @@
 -- What the laws of a field give: sums and products rearranged, what cancels, and that there is no divisor of zero.
-use Rattle.std.proofs.Common.{◌≡◌, ℕ, ◌<◌, ◌≢◌, sym, refl, ap, ◌∙◌, arith}
+use Rattle.std.proofs.Common.{◌≡◌, ℕ, ◌<◌, ◌≢◌, sym, ap, ◌∙◌, arith}
 use Rattle.fields.specs.Arithmetic.{Arithmetic}
 use Rattle.fields.proofs.Total.{TotalLaws}
 

@@ -1,5 +1,5 @@
 -- The remainder by the polynomial 285 is the only one, and the code's steps toward it.
-use Rattle.std.proofs.Common.{◌≡◌, ℕ, zero, suc, ◌+◌, ◌-◌, ◌*◌, ◌/◌, ◌%◌, ◌^◌, ◌<◌, ◌≤◌, Bool, ◌&&◌, T, eqb, ltb, leb, ◌⊎◌, List, [], ◌∷◌, get_or, sym, refl, ap, ◌∙◌, subst, ap₂, inl, inr, lt_of_lt_of_le, mul-le-mul_right, mod-lt, mod-eq_of_lt, one-mul, add-one, arith, eqb→eq, ltb→lt, leb→le, shl_lt}
+use Rattle.std.proofs.Common.{◌≡◌, ℕ, zero, suc, ◌+◌, ◌-◌, ◌*◌, ◌/◌, ◌%◌, ◌^◌, ◌<◌, ◌≤◌, Bool, ◌&&◌, T, eqb, ltb, leb, List, [], ◌∷◌, get_or, sym, refl, ap, ◌∙◌, subst, lt_of_lt_of_le, mul-le-mul_right, mod-lt, mod-eq_of_lt, one-mul, add-one, arith, eqb→eq, ltb→lt, leb→le, shl_lt}
 use native.Mathlib.Nat.{pow-le-pow_right}
 use lib.Bits.{bit_xor, xor_zero_l, xor_zero_r, xor_assoc, xor_self, xor_lt}
 use Rattle.fields.specs.Binary.{carryless, remainder, Remains}

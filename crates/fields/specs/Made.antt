@@ -1,7 +1,6 @@
 -- What making a field gives, by the arithmetic that the field's own `Field` says it has.
 use Rattle.std.specs.Prelude.{◌≡◌, ℕ, true, false, Ok, Err, Result}
 use Rattle.fields.specs.Arithmetic.{Arithmetic}
-use Rattle.fields.specs.Binary.{bytes}
 use Rattle.fields.specs.Primes.{listed, residues}
 use Rattle.fields.specs.declared.fault.FieldFault.{FieldFault}
 use Rattle.fields.specs.declared.fault.FieldFault.TheVariants.{Unlisted}

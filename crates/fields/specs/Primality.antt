@@ -1,9 +1,8 @@
 -- The listed moduli are prime, by one test that is computed.
-use Rattle.std.specs.Prelude.{◌≡◌, ℕ, zero, suc, ◌+◌, ◌-◌, ◌*◌, ◌/◌, ◌%◌, ◌<◌, ◌≤◌, Bool, true, false, not, ◌&&◌, ◌||◌, T, ◌⊎◌, List, [], ◌∷◌, ◌==◌, ◌≢◌, nat_le, nat_lt, refl}
-use Rattle.std.proofs.Common.{sym, ap, subst, ◌∙◌, inl, inr, eq-or-lt_of_le, lt_of_not-le, mul-le-mul, mul-le-mul_left, mul-le-mul_right, mul_comm, mul-one, two-mul, arith, T_not, eqb→eq, ltb→lt, leb→le, lt→ltb}
+use Rattle.std.specs.Prelude.{◌≡◌, ℕ, ◌+◌, ◌-◌, ◌*◌, ◌/◌, ◌%◌, ◌<◌, ◌≤◌, Bool, true, not, ◌&&◌, ◌||◌, T, ◌⊎◌, List, [], ◌∷◌, ◌==◌, ◌≢◌, nat_le, nat_lt}
+use Rattle.std.proofs.Common.{sym, ap, subst, ◌∙◌, inl, inr, lt_of_not-le, mul-le-mul, mul-le-mul_left, mul-le-mul_right, mul_comm, mul-one, two-mul, arith, T_not, eqb→eq, ltb→lt, leb→le}
 use Rattle.std.proofs.Math.Nat.{mul-mod_right, mul-div_cancel'}
 use Rattle.std.proofs.Math.Decide.{dec_le}
-use Rattle.std.proofs.Math.Dec.{eqb_refl}
 use Rattle.fields.specs.Laws.{Sizes}
 use Rattle.fields.specs.Numbers.{among}
 use Rattle.fields.specs.Primes.{IsPrime, moduli, listed, residues}

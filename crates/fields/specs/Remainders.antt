@@ -1,7 +1,7 @@
 -- Remainders by a prime number are a field.
-use Rattle.std.specs.Prelude.{◌≡◌, ℕ, zero, suc, ◌+◌, ◌-◌, ◌*◌, ◌/◌, ◌%◌, ◌<◌, ◌≤◌, ◌⊎◌, refl}
-use Rattle.std.proofs.Common.{sym, ap, subst, ◌∙◌, inl, inr, mod-lt, mod-eq_of_lt, add_comm, add_assoc, zero-add, mul_comm, mul_assoc, mul-one, one-mul, mul-add, add-mul, eq-or-lt_of_le, eq-zero-or-pos, mul-zero, arith}
-use Rattle.std.proofs.Math.Nat.{mod_self, mod-mod, mod-add-mod, add-mod-mod, add-mod, mod-add-div, div-add-mod, dvd_of_mod-eq-zero, add-mul-mod_self_left, mul-mod_right, mul-sub, mul-div-le}
+use Rattle.std.specs.Prelude.{◌≡◌, ℕ, zero, suc, ◌+◌, ◌-◌, ◌*◌, ◌/◌, ◌%◌, ◌<◌}
+use Rattle.std.proofs.Common.{sym, ap, ◌∙◌, inl, inr, mod-lt, mod-eq_of_lt, add_comm, add_assoc, zero-add, mul_comm, mul_assoc, mul-one, one-mul, mul-add, add-mul, eq-or-lt_of_le, eq-zero-or-pos, arith}
+use Rattle.std.proofs.Math.Nat.{mod_self, mod-add-mod, add-mod-mod, add-mod, mod-add-div, div-add-mod, dvd_of_mod-eq-zero, add-mul-mod_self_left, mul-sub}
 use Rattle.fields.specs.Arithmetic.{partner}
 use Rattle.fields.specs.Laws.{Sums, Products, Inverses}
 use Rattle.fields.specs.Primes.{IsPrime, residues}

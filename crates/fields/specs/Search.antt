@@ -1,5 +1,5 @@
 -- A search below a bound: it ends at a number that passes, if one does.
-use Rattle.std.specs.Prelude.{◌≡◌, ℕ, zero, suc, ◌<◌, Bool, true, false, cond, T, ◌⊎◌, ◌==◌, nat_eq, refl}
+use Rattle.std.specs.Prelude.{◌≡◌, ℕ, zero, suc, ◌<◌, Bool, true, false, cond, T, ◌==◌, nat_eq, refl}
 use Rattle.std.proofs.Common.{inl, inr, sym, subst, eq-or-lt_of_le, arith, eqb→eq}
 use Rattle.fields.specs.Arithmetic.{found, partner}
 

@@ -1,5 +1,5 @@
 -- What was written is read back, and different sheets give different files.
-use Rattle.std.proofs.Common.{◌≡◌, ℕ, zero, suc, ◌+◌, ◌-◌, ◌*◌, ◌/◌, ◌%◌, ◌<◌, ◌≤◌, Bool, true, false, cond, ◌&&◌, T, eqb, ◌⊎◌, List, [], ◌∷◌, ◌++◌, map, length, get_or, take, drop, Some, None, Ok, Err, Option, sym, refl, ap, ◌∙◌, subst, inl, inr, append_assoc, suc-mul, arith, length-append, length-drop, length-take, take-add}
+use Rattle.std.proofs.Common.{◌≡◌, ℕ, zero, suc, ◌+◌, ◌*◌, ◌<◌, Bool, true, false, cond, ◌&&◌, T, eqb, ◌⊎◌, List, [], ◌∷◌, ◌++◌, map, length, get_or, take, drop, Some, None, Ok, Err, Option, sym, refl, ap, ◌∙◌, subst, inl, inr, append_assoc, suc-mul, arith, length-append, length-drop, length-take, take-add}
 use Rattle.std.specs.List.{range_with_len, AllByRecursion}
 use Rattle.std.proofs.lemmas.List.FromFn.{get_or-map-range_with_len}
 use Rattle.std.proofs.ByRecursion.{All-take, All-drop}
@@ -26,7 +26,7 @@ use Rattle.file.specs.declared.fault.FileFault.TheVariants.{TooShort, Field, Bac
 use Rattle.file.specs.declared.heading.Heading.{Heading}
 use Rattle.file.specs.Form.{Strip, strip, Form, strips_bytes, trailer}
 use Rattle.file.specs.Meant.{code_of, code_over, field_of}
-use Rattle.file.specs.Reads.{Holds, Taken, Declined}
+use Rattle.file.specs.Reads.{Holds, Declined}
 use Rattle.file.specs.Theorems.{Fitting, SheetFor, ReadsBack, ToldApart, RefusedRightly}
 use Rattle.file.specs.Writes.{file_bytes, strips_of_sheet, strips_by, strip_by, entry_by}
 use Rattle.file.proofs.Forms.{alone, tail_same, trailer-same}

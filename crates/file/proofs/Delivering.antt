@@ -1,7 +1,7 @@
 -- Strips delivered one after another.
 use Rattle.std.proofs.Common.{◌≡◌, ℕ, zero, suc, ◌+◌, ◌*◌, ◌<◌, ◌≤◌, ◌⊎◌, List, [], ◌∷◌, ◌++◌, map, length, get_or, take, drop, set, replicate, Some, None, Ok, Err, sym, refl, ap, ◌∙◌, subst, inl, inr, append_assoc, arith}
 use Rattle.std.proofs.ByRecursion.{All-get_or}
-use Rattle.std.proofs.lemmas.List.{drop_more, drop_all, get_or-drop, append-nil, map_more, take_all}
+use Rattle.std.proofs.lemmas.List.{drop_more, get_or-drop, append-nil, map_more, take_all}
 use Rattle.std.specs.List.{flat_map, AllByRecursion}
 use Rattle.fields.specs.Checks.{Check, and_then}
 use Rattle.codes.specs.Meaning.{Meaning}
@@ -9,8 +9,7 @@ use Rattle.codes.specs.declared.interface.Issuer as issuer
 use Rattle.carrier.specs.Book.{Book, Call, after}
 use Rattle.carrier.specs.Checks.{fit_check, deliver_check, entered}
 use Rattle.carrier.specs.Driven.{Holds, Follows}
-use Rattle.carrier.specs.Promise.{Fit}
-use Rattle.carrier.specs.Records.{meaning_of, records_of, deliver_answer, Left, Delivered}
+use Rattle.carrier.specs.Records.{meaning_of, records_of, deliver_answer, Delivered}
 use Rattle.carrier.specs.declared.collector.Collector.{Collector}
 use Rattle.carrier.specs.declared.fault.CollectorFault.{CollectorFault}
 use Rattle.carrier.proofs.Books.{after-deliver}

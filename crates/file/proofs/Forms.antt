@@ -1,10 +1,10 @@
 -- A file's bytes and its heading and strips determine each other.
-use Rattle.std.proofs.Common.{◌≡◌, ℕ, zero, suc, ◌+◌, ◌-◌, ◌*◌, ◌/◌, ◌%◌, ◌<◌, ◌≤◌, ◌⊎◌, List, [], ◌∷◌, ◌++◌, length, get_or, take, drop, sym, refl, ap, ◌∙◌, subst, inl, inr, append_assoc, suc-mul, div-add-mod', le-div_iff_mul-le, zero-mul, mul-div_cancel, arith, lit<, length-append, length-drop, take-append-drop, length-take}
+use Rattle.std.proofs.Common.{◌≡◌, ℕ, zero, suc, ◌+◌, ◌-◌, ◌*◌, ◌/◌, ◌%◌, ◌<◌, ◌≤◌, List, [], ◌∷◌, ◌++◌, length, get_or, take, drop, sym, refl, ap, ◌∙◌, append_assoc, suc-mul, div-add-mod', le-div_iff_mul-le, zero-mul, mul-div_cancel, arith, lit<, length-append, length-drop, take-append-drop, length-take}
 use native.Mathlib.Nat.{mul-mod_left}
-use Rattle.std.proofs.lemmas.List.{append-nil, take_at, drop_at, nil_from_length, drop-drop, take_all, get_or-drop, get_or-take, take-take, drop-take, drop_more, drop_all}
+use Rattle.std.proofs.lemmas.List.{append-nil, take_at, drop_at, nil_from_length, drop-drop, get_or-drop, take-take, drop-take, drop_more, drop_all}
 use Rattle.std.specs.List.{flat_map, AllByRecursion}
 use Rattle.file.specs.declared.heading.Heading.{Heading}
-use Rattle.file.specs.Form.{Strip, Form, two, strip, strip_bytes, strips_bytes, trailer, numbers_in, strip_in, strips_in}
+use Rattle.file.specs.Form.{Strip, Form, two, strip, strips_bytes, trailer, numbers_in, strip_in, strips_in}
 use Rattle.file.specs.Reads.{held}
 
 -- one more of w

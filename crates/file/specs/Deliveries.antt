@@ -1,5 +1,5 @@
 -- Strips delivered one after another.
-use Rattle.std.specs.Prelude.{◌≡◌, ℕ, ◌+◌, List, [], ◌∷◌, ◌++◌, map, length, drop, replicate, None, Ok, Err, Result}
+use Rattle.std.specs.Prelude.{◌≡◌, ℕ, ◌+◌, List, [], ◌∷◌, ◌++◌, map, length, drop, replicate, None, Ok, Err}
 use Rattle.fields.specs.Checks.{Check}
 use Rattle.codes.specs.Meaning.{Meaning}
 use Rattle.codes.specs.declared.interface.Issuer as issuer

@@ -1,5 +1,5 @@
 -- What a heading asks for: a field, and over it the evaluation code with the points 0 to n − 1.
-use Rattle.std.specs.Prelude.{◌≡◌, ℕ, Bool, cond, ◌&&◌, Some, None, Ok, Err, Option, Result, ◌==◌}
+use Rattle.std.specs.Prelude.{◌≡◌, cond, ◌&&◌, Some, None, Ok, Err, Option, Result, ◌==◌}
 use Rattle.fields.specs.Arithmetic.{Arithmetic}
 use Rattle.fields.specs.Binary.{bytes}
 use Rattle.fields.specs.Primes.{listed, residues}

@@ -1,13 +1,12 @@
 -- Files and what they carry determine each other.
-use Rattle.std.specs.Prelude.{◌≡◌, ℕ, ◌*◌, List, ◌++◌, length, Some, Ok, Err, Result}
+use Rattle.std.specs.Prelude.{◌≡◌, ℕ, ◌*◌, List, ◌++◌, length, Some, Ok}
 use Rattle.std.specs.List.{AllByRecursion}
 use Rattle.fields.specs.Numbers.{Below}
 use Rattle.codes.specs.Meaning.{Meaning}
 use Rattle.carrier.specs.Checks.{fit_check}
 use Rattle.file.specs.declared.fault.FileFault.{FileFault}
 use Rattle.file.specs.declared.heading.Heading.{Heading}
-use Rattle.file.specs.declared.reader.Reader.{Reader}
-use Rattle.file.specs.Form.{Strip, Form}
+use Rattle.file.specs.Form.{Strip}
 use Rattle.file.specs.Meant.{code_of}
 use Rattle.file.specs.Reads.{Holds, Declined, Taken}
 use Rattle.file.specs.Writes.{file_bytes, strips_of_sheet}

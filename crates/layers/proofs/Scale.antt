@@ -5,7 +5,7 @@ use Rattle.std.proofs.lemmas.List.{at_drop_more}
 use Rattle.std.proofs.lemmas.Bool.Decides.{nat_tests}
 use Rattle.fields.proofs.Total.{total-laws, counted_same}
 use Rattle.fields.specs.Arithmetic.{Arithmetic, total}
-use Rattle.fields.specs.Laws.{Sizes, Sums, Products, Inverses, Laws}
+use Rattle.fields.specs.Laws.{Laws}
 use Rattle.fields.specs.Numbers.{Below}
 use Rattle.codes.proofs.Passed.{passes, decided_ok, decided_from}
 use Rattle.fields.specs.Checks.{Check, unless, and_then}
@@ -15,7 +15,7 @@ use Rattle.codes.specs.Words.{wrong}
 use Rattle.codes.specs.declared.fault.CodeFault.{CodeFault}
 use Rattle.codes.specs.declared.fault.FitnessFault.{FitnessFault}
 use Rattle.codes.specs.declared.fault.FitnessFault.TheVariants.{Length, FieldSize, Multiplier}
-use Rattle.layers.specs.Products.{length-products, get_or-products, products-below, differ-products, length-quotients, wrong-quotients, quotients-pass}
+use Rattle.layers.specs.Products.{get_or-products, length-quotients, wrong-quotients, quotients-pass}
 use Rattle.layers.specs.Made.{Scales}
 use Rattle.layers.specs.ScaledSound.{Scaling, scaling, units, scaled-sound}
 use Rattle.layers.specs.Scaled.{multiplier_check, products, quotients, Units, scaled}

@@ -1,15 +1,14 @@
 -- What trimming does to messages, words and reach.
-use Rattle.std.proofs.Common.{◌≡◌, ℕ, zero, suc, ◌+◌, ◌-◌, ◌<◌, Bool, true, false, eqb, ltb, ◌⊎◌, List, [], ◌∷◌, ◌++◌, length, get_or, take, drop, replicate, Ok, Err, Result, sym, refl, ap, ◌∙◌, subst, inl, inr, append_assoc, arith, length-append, length-drop, take-append-drop, length-take}
+use Rattle.std.proofs.Common.{◌≡◌, ℕ, zero, suc, ◌+◌, ◌-◌, ◌<◌, Bool, true, false, eqb, ltb, ◌⊎◌, List, [], ◌∷◌, ◌++◌, length, take, drop, replicate, Ok, Err, Result, sym, refl, ap, ◌∙◌, subst, inl, inr, append_assoc, arith, length-append, length-drop, take-append-drop, length-take}
 use lib.ListN.{length-replicate, replicate-append-replicate}
-use Rattle.std.proofs.ByRecursion.{All-append, All-take}
+use Rattle.std.proofs.ByRecursion.{All-take}
 use Rattle.std.proofs.lemmas.List.{drop_at, take_at, take-take}
 use Rattle.std.proofs.lemmas.Bool.Decides.{nat_tests}
-use Rattle.fields.specs.Numbers.{Below}
 use Rattle.codes.proofs.Passed.{Passed, passed, passes, issuable, issues, decided_ok}
 use Rattle.codes.proofs.Reach.{one-reached}
 use Rattle.fields.specs.Checks.{Check, unless, and_then}
 use Rattle.codes.specs.Lists.{filled}
-use Rattle.codes.specs.Meaning.{Meaning, Message, Reached, Sound, issue_check, decode_check, Solved, Found, OutOfReach, Accepted, Decoded}
+use Rattle.codes.specs.Meaning.{Meaning, Reached, Sound, issue_check, decode_check, Solved, Found, OutOfReach, Accepted, Decoded}
 use Rattle.codes.specs.declared.fault.CodeFault.{CodeFault}
 use Rattle.codes.specs.declared.fault.CodeFault.TheVariants.{Reach}
 use Rattle.codes.specs.declared.fault.FitnessFault.{FitnessFault}

@@ -1,6 +1,6 @@
 -- A fit scaled code keeps what a fit code promises.
-use Rattle.std.specs.Prelude.{◌≡◌, ℕ, ◌+◌, ◌<◌, ◌≤◌, ◌&&◌, List, [], ◌∷◌, length, Ok, Err, refl}
-use Rattle.std.proofs.Common.{eqb, ltb, leb, sym, ◌∙◌, subst, arith}
+use Rattle.std.specs.Prelude.{◌≡◌, ℕ, ◌+◌, ◌<◌, ◌≤◌, List, [], ◌∷◌, length, Ok, Err, refl}
+use Rattle.std.proofs.Common.{eqb, sym, ◌∙◌, subst, arith}
 use Rattle.std.proofs.lemmas.Bool.Decides.{nat_tests}
 use Rattle.fields.proofs.Total.{total-laws}
 use Rattle.fields.specs.Arithmetic.{Arithmetic, total}

@@ -1,5 +1,5 @@
 -- A fit trimmed code keeps what a fit code promises.
-use Rattle.std.specs.Prelude.{◌≡◌, ℕ, zero, suc, ◌-◌, ◌<◌, List, [], ◌∷◌, ◌++◌, length, take, replicate, Ok, Err, refl}
+use Rattle.std.specs.Prelude.{◌≡◌, ℕ, zero, suc, ◌-◌, ◌<◌, List, ◌++◌, length, take, replicate, Ok, Err, refl}
 use Rattle.std.proofs.Common.{ltb, sym, ap, ◌∙◌, arith, length-append}
 use lib.ListN.{length-replicate}
 use Rattle.std.proofs.ByRecursion.{All-append}

@@ -1,11 +1,11 @@
 -- The codes keep the code meaning.
 use Rattle.std.proofs.Common.{◌≡◌, ◌↔◌, List, [], ◌∷◌, Ok, refl, ◌∙◌}
-use Rattle.codes.specs.Meaning.{Meaning, Sound}
+use Rattle.codes.specs.Meaning.{Meaning}
 use Rattle.evaluation.specs.Evaluated.{evaluates}
 use Rattle.layers.proofs.Scale.{scales}
 use Rattle.layers.proofs.Trim.{trims}
 use Rattle.repetition.proofs.Repeats.{repeats}
-use Rattle.piles.specs.Keeping.{Layer, trim, scale, over, Lawful, Suits, pile, AllLawful, AllSuit, Keeps, Piled, CodesKeep}
+use Rattle.piles.specs.Keeping.{Layer, trim, scale, over, Lawful, Suits, pile, AllLawful, Keeps, Piled, CodesKeep}
 
 over-fit : (layer : Layer) (m : Meaning) → Lawful layer → Keeps m → ((over layer m).fitness ≡ Ok tt) ↔ ((m.fitness ≡ Ok tt) × Suits layer m)
 over-fit (trim z) m law keeps = (trims z m keeps).fit

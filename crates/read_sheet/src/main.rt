@@ -104,7 +104,7 @@ mod tests {
             return Err(Fail::new("the sheet is refused"));
         };
         assert_eq!(rt; size, 17);
-        assert_eq!(rt; &output[0..9], &[0, 0, 5, 1, 0, 2, 2, 0, 11]);
+        assert_eq!(rt; &output[0..9], [0, 0, 5, 1, 0, 2, 2, 0, 11].as_slice());
         match receive(&output[0..17]) {
             Ok(received) => {
                 assert_eq!(rt; (received.kept, received.number(0, 1)), (3, 7));

@@ -1,9 +1,7 @@
 -- Lemmas of the repetition code and its decoder.
-use Rattle.std.proofs.Common.{◌≡◌, ℕ, zero, suc, ◌+◌, ◌<◌, ◌≤◌, cond, eqb, List, [], ◌∷◌, length, get_or, set, replicate, Ok, sym, refl, ap, ◌∙◌, subst, arith}
-use lib.ListN.{length-replicate}
+use Rattle.std.proofs.Common.{◌≡◌, ℕ, suc, ◌+◌, ◌<◌, ◌≤◌, cond, eqb, List, [], ◌∷◌, length, get_or, set, replicate, Ok, sym, refl, ap, ◌∙◌, subst, arith}
 use Rattle.std.proofs.lemmas.Bool.Decides.{nat_tests}
-use Rattle.fields.specs.Numbers.{Below, differ}
-use Rattle.codes.specs.Meaning.{Message, Sound, Solved}
+use Rattle.codes.specs.Meaning.{Solved}
 use Rattle.codes.specs.Words.{wrong, missing}
 use Rattle.repetition.specs.Made.{Repeats}
 use Rattle.repetition.specs.Sound.{repetition-sound}

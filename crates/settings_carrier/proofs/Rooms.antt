@@ -1,9 +1,7 @@
 -- The room for a sheet, and the scratch for a decoder.
-use Rattle.std.proofs.Common.{◌≡◌, ℕ, ◌+◌, ◌-◌, ◌*◌, ◌<◌, ◌≤◌, List, ◌++◌, length, take, drop, Some, Ok, Err, Result, sym, refl, ap, ◌∙◌, inl, inr, mul-le-mul, arith, length-take}
+use Rattle.std.proofs.Common.{◌≡◌, ℕ, ◌+◌, ◌-◌, ◌*◌, ◌≤◌, List, ◌++◌, length, take, drop, Some, Ok, Err, Result, ap, inl, inr, mul-le-mul, arith, length-take}
 use borrow.Rule.Slice.PartMut.{post_of}
-use Rattle.fields.specs.Checks.{Check}
 use Rattle.codes.specs.Meaning.{Meaning}
-use Rattle.codes.specs.declared.fault.FitnessFault.{FitnessFault}
 use Rattle.carrier.specs.Checks.{fit}
 use Rattle.file.specs.Form.{Strip}
 use Rattle.file.specs.Meant.{code_of, field_of}
@@ -13,9 +11,8 @@ use Rattle.file.specs.declared.fault.FileFault.{FileFault}
 use Rattle.file.specs.declared.heading.Heading.{Heading}
 use Rattle.file.specs.declared.received.Received.{Received}
 use Rattle.file.proofs.Apart.{rightly}
-use Rattle.file.proofs.Receiving.{shape_over, few-numbers}
+use Rattle.file.proofs.Receiving.{shape_over}
 use Rattle.settings_carrier.specs.Readings.{size, Cramped, Fills}
-use Rattle.settings_carrier.specs.Reports.{headed}
 
 -- where every sheet of the file has room, what is received fills it
 pub fills : (file : List ℕ) (room : ℕ) (r : Result Received FileFault) → ((h : Heading) (ss : List Strip) → length file ≤ 65535 → Taken h ss file → size h ≤ room) → Receives file r → Fills file room r

@@ -1,6 +1,5 @@
 -- What a code's answers say, once they are taken over by the program.
 use Rattle.std.specs.Prelude.{◌≡◌, ℕ, List, map, vec_items, Option}
-use Rattle.std.specs.declared.alloc.Global.{Global}
 use Rattle.codes.specs.Meaning.{Meaning, Reached, Found}
 use Rattle.vectors.specs.Entries.{number, mark}
 use Rattle.vectors.specs.declared.questions.Answer.{Answer}

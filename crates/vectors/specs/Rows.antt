@@ -1,5 +1,5 @@
 -- What a row of the table counts.
-use Rattle.std.specs.Prelude.{◌≡◌, ℕ, ◌<◌, true, Some, None, Ok, Err, Option, Result}
+use Rattle.std.specs.Prelude.{◌≡◌, ◌<◌, Some, None, Ok, Err, Option, Result}
 use Rattle.vectors.specs.declared.tally.Tally.{Tally}
 
 -- nothing differs in what a line compared, and it compared something

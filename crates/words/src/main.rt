@@ -182,15 +182,15 @@ mod tests {
         let seven = Prime::new(7)?;
         assert_eq!(rt;
             word_of(heap, &seven, &[1, 2, 3, 4, 5, 6], &[3, 0, 2, 1])?.as_slice(),
-            &[6, 5, 6, 1, 3, 4]
+            [6, 5, 6, 1, 3, 4].as_slice()
         );
         assert_eq!(rt;
             word_of(heap, &seven, &[1, 3, 2, 6, 4, 5], &[3, 0, 2, 1])?.as_slice(),
-            &[6, 6, 5, 4, 1, 3]
+            [6, 6, 5, 4, 1, 3].as_slice()
         );
         assert_eq!(rt;
             word_of(heap, &Gf256::new(), &[0, 1, 2], &[5, 7])?.as_slice(),
-            &[5, 2, 11]
+            [5, 2, 11].as_slice()
         );
         Ok(())
     }

@@ -2,7 +2,7 @@ use Rattle.std.proofs.Common.{◌≡◌, ℕ, ◌+◌, ◌<◌, ◌≤◌, List,
 use mathlib.Core.List.{map-append}
 use Rattle.std.proofs.lemmas.List.{map_more, take_more_set, drop_more}
 use Rattle.piles.proofs.Kept.{codes_kept}
-use Rattle.carrier.specs.Book.{Book, Call, after, booked}
+use Rattle.carrier.specs.Book.{Call, after, booked}
 use Rattle.carrier.specs.Checks.{fit_check}
 use Rattle.carrier.specs.Records.{records_of, records, BookBelow}
 use Rattle.carrier.specs.Replies.{asked, reply, Reply}

@@ -1,8 +1,7 @@
-use Rattle.std.proofs.Common.{◌≡◌, ℕ, List, length, set, Some, None, Ok, vec_items, sym, refl, ap, ◌∙◌, subst, arith, length-take}
+use Rattle.std.proofs.Common.{◌≡◌, ℕ, List, length, set, Some, None, vec_items, sym, refl, ap, ◌∙◌, subst, arith, length-take}
 use Rattle.std.specs.Vec.{with_items}
 use Rattle.std.proofs.lemmas.List.{length-map, with_items_is}
-use Rattle.carrier.specs.Book.{Book}
-use Rattle.carrier.specs.Checks.{deliver_check, strike_check, read_check, entered}
+use Rattle.carrier.specs.Checks.{deliver_check, read_check, entered}
 use Rattle.carrier.specs.Records.{meaning_of, records_of, fitness_of, BookBelow}
 use Rattle.carrier.specs.Steps.{Checked}
 use Rattle.carrier.proofs.Books.{after-deliver, after-strike, deliver-below, strike-below}

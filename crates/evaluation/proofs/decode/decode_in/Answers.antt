@@ -1,7 +1,6 @@
-use Rattle.std.proofs.Common.{◌≡◌, ℕ, ◌+◌, ◌-◌, ◌*◌, ◌<◌, ◌≤◌, length, Ok, Err, sym, refl, ap, ◌∙◌, subst, mul-le-mul, arith}
+use Rattle.std.proofs.Common.{◌+◌, ◌-◌, ◌<◌, ◌≤◌, length, refl, mul-le-mul, arith}
 use Rattle.std.proofs.lemmas.Result.{err_from_is_err_and}
-use Rattle.fields.specs.Arithmetic.{total}
-use Rattle.evaluation.specs.Decoding.{present, Located}
+use Rattle.evaluation.specs.Decoding.{present}
 use Rattle.evaluation.specs.Counted.{length-present}
 use Rattle.evaluation.specs.Evaluated.{solved-ok, solved-err, solved-few}
 use Rattle.evaluation.proofs.decode.decode_in.Goals as goal

@@ -1,4 +1,4 @@
-use Rattle.std.proofs.Common.{◌≡◌, ℕ, ◌-◌, ◌<◌, ◌≤◌, get_or, drop}
+use Rattle.std.proofs.Common.{◌≡◌, ℕ, ◌-◌, ◌<◌, get_or, drop}
 use Rattle.linear.specs.Operations.{operations}
 use Rattle.linear.specs.Equations.{row}
 use Rattle.evaluation.specs.Decoding.{present, equation}

@@ -1,8 +1,8 @@
-use Rattle.std.proofs.Common.{◌≡◌, ℕ, ◌+◌, ◌<◌, ◌≤◌, length, get_or, set, sym, refl, ap, ◌∙◌, subst, arith}
+use Rattle.std.proofs.Common.{◌≡◌, ℕ, ◌+◌, ◌<◌, length, get_or, set, sym, ap, ◌∙◌, subst, arith}
 use Rattle.std.proofs.lemmas.List.{ext_get_or}
 use Rattle.std.proofs.lemmas.List.Edits.{fill_by_more}
 use Rattle.linear.specs.Operations.{operations}
-use Rattle.evaluation.specs.Decoding.{power, powers}
+use Rattle.evaluation.specs.Decoding.{power}
 use Rattle.evaluation.proofs.Powers.{power-more, get_or-powers, length-powers}
 use Rattle.evaluation.proofs.equations.write_powers.Goals as goal
 

@@ -1,4 +1,4 @@
-use Rattle.std.proofs.Common.{◌≡◌, ℕ, ◌<◌, ◌≤◌, get_or}
+use Rattle.std.proofs.Common.{◌≡◌, ℕ, ◌<◌, get_or}
 use Rattle.linear.specs.Operations.{operations}
 use Rattle.evaluation.specs.Decoding.{power}
 use Rattle.evaluation.proofs.equations.write_powers.Given as goal

@@ -1,4 +1,4 @@
-use Rattle.std.proofs.Common.{◌≡◌, ℕ, ◌+◌, ◌*◌, ◌≤◌, length, ap, mul-le-mul}
+use Rattle.std.proofs.Common.{◌≡◌, ◌*◌, ◌≤◌, length, ap, mul-le-mul}
 use Rattle.carrier.proofs.Records.{fits}
 use Rattle.file.proofs.writing.put_sheet.Goals as goal
 

@@ -1,4 +1,4 @@
-use Rattle.std.proofs.Common.{◌≡◌, ℕ, ◌+◌, ◌*◌, ◌∷◌, map, get_or, take}
+use Rattle.std.proofs.Common.{◌≡◌, ◌+◌, ◌*◌, ◌∷◌, map, get_or, take}
 use Rattle.std.specs.List.{range_with_len, flat_map}
 use Rattle.file.specs.Form.{two}
 use Rattle.file.proofs.writing.put_strip.Given as goal

@@ -1,4 +1,4 @@
-use Rattle.std.proofs.Common.{◌≡◌, ℕ, ◌+◌, ◌*◌, get_or, take}
+use Rattle.std.proofs.Common.{◌≡◌, ◌+◌, ◌*◌, get_or, take}
 use Rattle.file.specs.Form.{strips_bytes}
 use Rattle.file.specs.Writes.{strips_by}
 use Rattle.file.proofs.writing.put_strips.Given as goal

@@ -1,4 +1,4 @@
-use Rattle.std.proofs.Common.{◌≡◌, ℕ, ◌+◌, ◌*◌, get_or, ap, ◌∙◌}
+use Rattle.std.proofs.Common.{◌+◌, ◌*◌, get_or, ap, ◌∙◌}
 use Rattle.file.specs.Form.{strips_bytes}
 use Rattle.file.specs.Writes.{strips_by, entry_by}
 use Rattle.file.proofs.Putting.{strips-same}

@@ -1,4 +1,4 @@
-use Rattle.std.proofs.Common.{◌≡◌, ℕ, ◌+◌, ◌-◌, ◌*◌, ◌≤◌, length, Ok, sym, ap, ◌∙◌, arith}
+use Rattle.std.proofs.Common.{◌≡◌, ℕ, ◌+◌, ◌-◌, ◌*◌, length, Ok, sym, ap, ◌∙◌, arith}
 use Rattle.file.specs.Form.{strips_bytes}
 use Rattle.file.specs.Writes.{strips_of_sheet, entry_by, write_check}
 use Rattle.file.proofs.Putting.{assembled, length-file, length-strips_by}

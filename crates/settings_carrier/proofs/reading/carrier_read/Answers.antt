@@ -1,4 +1,4 @@
-use Rattle.std.proofs.Common.{◌≡◌, Ok, refl}
+use Rattle.std.proofs.Common.{Ok, refl}
 use Rattle.file.proofs.Receiving.{few-numbers}
 use Rattle.settings_carrier.proofs.Rooms.{placed}
 use Rattle.settings_carrier.proofs.reading.carrier_read.Goals as goal

@@ -1,4 +1,4 @@
-use Rattle.std.proofs.Common.{◌≡◌, ℕ, ◌<◌, ◌≤◌, Bool, true, false, length, get_or, None, Ok, sym, ap, ◌∙◌, arith}
+use Rattle.std.proofs.Common.{◌≡◌, ◌<◌, ◌≤◌, true, false, length, get_or, None, Ok, sym, ◌∙◌, arith}
 use Rattle.carrier.specs.Book.{filled}
 use Rattle.carrier.specs.Records.{meaning_of, records_of, fitness_of}
 use Rattle.carrier.proofs.Records.{strike-ends, filled_at, fits}

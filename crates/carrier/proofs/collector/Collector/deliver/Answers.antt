@@ -1,4 +1,4 @@
-use Rattle.std.proofs.Common.{◌≡◌, set, Some, ap, ◌∙◌}
+use Rattle.std.proofs.Common.{set, Some, ap, ◌∙◌}
 use Rattle.carrier.specs.Book.{deliver}
 use Rattle.carrier.specs.Checks.{entered}
 use Rattle.carrier.specs.Records.{meaning_of, records_of, fitness_of}

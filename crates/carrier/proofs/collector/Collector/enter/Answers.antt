@@ -1,4 +1,4 @@
-use Rattle.std.proofs.Common.{◌≡◌, ◌-◌, List, length, set, replicate, Some, sym, refl, ap, ◌∙◌}
+use Rattle.std.proofs.Common.{◌-◌, List, length, set, replicate, Some, sym, refl, ap, ◌∙◌}
 use Rattle.carrier.specs.Records.{meaning_of, records_of, fitness_of, records}
 use Rattle.carrier.proofs.Records.{accepted, records-put}
 use Rattle.carrier.proofs.collector.Collector.enter.Goals as goal

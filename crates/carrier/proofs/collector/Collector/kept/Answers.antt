@@ -1,4 +1,4 @@
-use Rattle.std.proofs.Common.{◌≡◌, ◌<◌, min, true, false, length, sym, ap, ◌∙◌, arith}
+use Rattle.std.proofs.Common.{◌≡◌, ◌<◌, min, true, false, length, sym, ◌∙◌, arith}
 use Rattle.carrier.proofs.Places.{places_more, places_records}
 use Rattle.carrier.proofs.collector.Collector.kept.Goals as goal
 use Rattle.carrier.proofs.collector.Collector.kept.Goals.{then-holds, else-holds}

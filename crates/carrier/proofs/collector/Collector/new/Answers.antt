@@ -1,4 +1,4 @@
-use Rattle.std.proofs.Common.{◌≡◌, refl, ap, ◌∙◌}
+use Rattle.std.proofs.Common.{refl, ap, ◌∙◌}
 use Rattle.carrier.specs.Records.{records}
 use Rattle.carrier.proofs.Unique.{fresh_book}
 use Rattle.carrier.proofs.collector.Collector.new.Goals as goal

@@ -1,4 +1,4 @@
-use Rattle.std.proofs.Common.{◌≡◌, ℕ, ◌≤◌, length, sym, ap, arith}
+use Rattle.std.proofs.Common.{◌≡◌, ◌≤◌, length, sym, ap, arith}
 use Rattle.std.proofs.lemmas.Nat.{mul-le}
 use Rattle.carrier.specs.Records.{meaning_of, fitness_of}
 use Rattle.carrier.proofs.Records.{fits, passed}

@@ -1,4 +1,4 @@
-use Rattle.std.proofs.Common.{◌≡◌, None, sym, refl, ap, ◌∙◌}
+use Rattle.std.proofs.Common.{None, sym, refl, ap, ◌∙◌}
 use Rattle.carrier.specs.Records.{meaning_of, records_of, fitness_of, records}
 use Rattle.carrier.proofs.Records.{removed, records-set}
 use Rattle.carrier.proofs.collector.Collector.remove.Goals as goal

@@ -1,4 +1,4 @@
-use Rattle.std.proofs.Common.{◌≡◌, ◌<◌, ◌≤◌, length, get_or, take, Some, None, sym, refl, ap, ◌∙◌, arith, take_all, rules}
+use Rattle.std.proofs.Common.{◌<◌, length, take, None, sym, ap, ◌∙◌, arith, take_all}
 use Rattle.carrier.specs.Sheets.{entry, mark, received, marks}
 use Rattle.carrier.proofs.Records.{map-step}
 use Rattle.carrier.proofs.table.Table.column.Goals as goal

@@ -1,4 +1,4 @@
-use Rattle.std.proofs.Common.{◌+◌, ◌*◌, ◌/◌, ◌<◌, length, get_or, arith, w8, Fits, rules}
+use Rattle.std.proofs.Common.{◌+◌, ◌*◌, ◌/◌, length, arith, rules}
 use Rattle.file.proofs.Forms.{piece, room, length-strips_in}
 use Rattle.file.proofs.reader.open.cut.Goals as goal
 

@@ -1,5 +1,5 @@
-use Rattle.std.proofs.Common.{◌≡◌, ◌+◌, ◌-◌, ◌*◌, ◌/◌, ◌%◌, ◌<◌, ◌≤◌, length, get_or, take, arith, rules}
-use Rattle.file.proofs.Forms.{last_eight, high-of, low_of}
+use Rattle.std.proofs.Common.{◌≡◌, ◌+◌, ◌-◌, ◌*◌, ◌/◌, ◌%◌, ◌<◌, ◌≤◌, length, take, arith, rules}
+use Rattle.file.proofs.Forms.{last_eight}
 use Rattle.file.proofs.reader.open.trailer_of.Goals as goal
 
 pub returns : goal.returns

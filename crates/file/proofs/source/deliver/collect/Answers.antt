@@ -1,4 +1,4 @@
-use Rattle.std.proofs.Common.{◌≡◌, ℕ, List, [], map, length, drop, replicate, None, Ok, Err, Result, sym, refl, ap, ◌∙◌, subst, arith}
+use Rattle.std.proofs.Common.{◌≡◌, ℕ, List, [], map, length, drop, replicate, None, Ok, Err, Result, sym, ap, ◌∙◌, subst, arith}
 use Rattle.fields.specs.Checks.{Check}
 use Rattle.codes.specs.Meaning.{Meaning}
 use Rattle.carrier.specs.Book.{Book}

@@ -1,4 +1,4 @@
-use Rattle.std.proofs.Common.{◌≡◌, ◌+◌, ◌-◌, length, sym, ◌∙◌, arith}
+use Rattle.std.proofs.Common.{◌≡◌, arith}
 use Rattle.fields.specs.Numbers.{differ}
 use Rattle.vectors.proofs.Differing.{differ-none}
 use Rattle.vectors.proofs.tally.Tally.of_numbers.Goals as goal

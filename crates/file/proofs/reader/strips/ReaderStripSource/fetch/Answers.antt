@@ -1,4 +1,4 @@
-use Rattle.std.proofs.Common.{◌≡◌, ◌+◌, ◌*◌, ◌/◌, [], length, sym, ap, ◌∙◌, arith}
+use Rattle.std.proofs.Common.{◌≡◌, ◌+◌, ◌*◌, ◌/◌, [], length, sym, ap, ◌∙◌}
 use Rattle.file.specs.Form.{strip, numbers_in}
 use Rattle.file.specs.Reads.{strips_of}
 use Rattle.file.proofs.Delivering.{fetched}
