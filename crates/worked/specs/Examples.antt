@@ -51,7 +51,7 @@ modulo_11 = evaluation (residues 11) 5 2 (1 ∷ 3 ∷ 9 ∷ 5 ∷ 4 ∷ [])
 abbrev pub one_to_six : List ℕ
 one_to_six = 1 ∷ 2 ∷ 3 ∷ 4 ∷ 5 ∷ 6 ∷ []
 
--- a word of `modulo-11` in which a number is wrong
+-- a word of `modulo_11` in which a number is wrong
 abbrev pub damaged : List ℕ
 damaged = 5 ∷ 9 ∷ 1 ∷ 2 ∷ 0 ∷ []
 
