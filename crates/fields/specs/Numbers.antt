@@ -1,6 +1,6 @@
 -- Lists of numbers: bounded, all zeros, distinct, and in how many places two of them differ.
-use Rattle.std.specs.Prelude.{◌≡◌, ℕ, ◌+◌, ◌<◌, Bool, false, cond, ◌||◌, ◌≢◌, List, [], ◌∷◌, ◌==◌}
-use Rattle.std.specs.List.{AllByRecursion}
+use Rattle.std.specs.Prelude.{◌≡◌, ℕ, ◌+◌, ◌<◌, Bool, cond, ◌≢◌, List, [], ◌∷◌, ◌==◌}
+use Rattle.std.specs.List.{AllByRecursion, list_any}
 
 -- every number is below q
 abbrev pub Below : ℕ → List ℕ → Type 0
@@ -17,8 +17,7 @@ Distinct (x ∷ xs) = AllByRecursion (λ y. y ≢ x) xs × Distinct xs
 
 -- whether a number stands in the list
 abbrev pub among : ℕ → List ℕ → Bool
-among x [] = false
-among x (y ∷ ys) = x == y || among x ys
+among x ys = list_any (λ y. y == x) ys
 
 -- in how many places two lists differ
 abbrev pub differ : List ℕ → List ℕ → ℕ

@@ -1,5 +1,5 @@
 -- The listed moduli are prime, by one test that is computed.
-use Rattle.std.specs.Prelude.{◌≡◌, ℕ, ◌+◌, ◌-◌, ◌*◌, ◌/◌, ◌%◌, ◌<◌, ◌≤◌, Bool, true, not, ◌&&◌, ◌||◌, T, ◌⊎◌, List, [], ◌∷◌, ◌==◌, ◌≢◌, nat_le, nat_lt}
+use Rattle.std.specs.Prelude.{◌≡◌, ℕ, ◌+◌, ◌-◌, ◌*◌, ◌/◌, ◌%◌, ◌<◌, ◌≤◌, Bool, true, not, ◌&&◌, ◌||◌, IsTrue, T, ◌⊎◌, List, [], ◌∷◌, ◌==◌, ◌≢◌, nat_le, nat_lt}
 use Rattle.std.proofs.Common.{sym, ap, subst, ◌∙◌, inl, inr, lt_of_not-le, mul-le-mul, mul-le-mul_left, mul-le-mul_right, mul_comm, mul-one, two-mul, arith, T_not, eqb→eq, ltb→lt, leb→le}
 use Rattle.std.proofs.Math.Nat.{mul-mod_right, mul-div_cancel'}
 use Rattle.std.proofs.Math.Decide.{dec_le}
@@ -65,24 +65,24 @@ passes_prime p h =
 prime_in : (n : ℕ) (ms : List ℕ) → T (all_pass ms) → T (among n ms) → IsPrime n
 prime_in n [] h t = absurd t
 prime_in n (m ∷ ms) h t =
-    elim (or_cases (n == m) (among n ms) t) [
-      | inl u ↦ subst IsPrime (sym (eqb→eq n m u)) (passes_prime m (and_left (passes m) (all_pass ms) h))
+    elim (or_cases (m == n) (among n ms) t) [
+      | inl u ↦ subst IsPrime (eqb→eq m n u) (passes_prime m (and_left (passes m) (all_pass ms) h))
       | inr u ↦ prime_in n ms (and_right (passes m) (all_pass ms) h) u
     ]
 
-pub listed-prime : (n : ℕ) → T (listed n) → IsPrime n
+pub listed-prime : (n : ℕ) → IsTrue (listed n) → IsPrime n
 unfolding listed
-listed-prime n t = prime_in n moduli moduli-pass t
+listed-prime n t = prime_in n moduli moduli-pass (subst T (sym t) tt)
 
 few-in : (n : ℕ) (ms : List ℕ) → T (all_pass ms) → T (among n ms) → n < 65536
 unfolding passes
 few-in n [] h t = absurd t
 few-in n (m ∷ ms) h t =
-    elim (or_cases (n == m) (among n ms) t) [
-      | inl u ↦ subst (λ k. k < 65536) (sym (eqb→eq n m u)) (ltb→lt m 65536 (and_left (nat_lt m 65536) _ (and_right (nat_lt 1 m) _ (and_left (passes m) (all_pass ms) h))))
+    elim (or_cases (m == n) (among n ms) t) [
+      | inl u ↦ subst (λ k. k < 65536) (eqb→eq m n u) (ltb→lt m 65536 (and_left (nat_lt m 65536) _ (and_right (nat_lt 1 m) _ (and_left (passes m) (all_pass ms) h))))
       | inr u ↦ few-in n ms (and_right (passes m) (all_pass ms) h) u
     ]
 
-pub listed-sizes : {p : ℕ} → IsPrime p → T (listed p) → Sizes (residues p)
+pub listed-sizes : {p : ℕ} → IsPrime p → IsTrue (listed p) → Sizes (residues p)
 unfolding listed
-listed-sizes {p} prime t = let h : p < 65536 = few-in p moduli moduli-pass t in record { low = prime.0; high = omega arith }
+listed-sizes {p} prime t = let h : p < 65536 = few-in p moduli moduli-pass (subst T (sym t) tt) in record { low = prime.0; high = omega arith }

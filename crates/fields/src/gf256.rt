@@ -6,13 +6,22 @@ ghost use Rattle.fields.specs.Bytes.{bytes-sizes, bytes-sums, bytes-products, by
 
 use crate::field::{Field, counted_below};
 
-mod make;
-
 // x⁸ + x⁴ + x³ + x² + 1
 const POLYNOMIAL: u16 = 285;
 
 #[derive(Clone, Copy)]
 pub struct Gf256(());
+
+impl Gf256 {
+    ghost use Rattle.fields.specs.Made.{arithmetic_of};
+
+    // The field of the polynomials modulo 285.
+    pub fn new() -> Gf256
+        ensures { arithmetic_of result ≡ bytes }
+    {
+        Gf256(())
+    }
+}
 
 impl Field for Gf256 {
     ghost arithmetic = { λ _. bytes };
@@ -97,7 +106,7 @@ fn inverse_of(a: u16) -> u16
 {
     let mut square = a;
     let mut powers: u16 = 1;
-    for _i in (0..7u32).rev() {
+    for _ in 0..7u32 {
         square = multiply_below(square, square);
         powers = multiply_below(powers, square);
     }

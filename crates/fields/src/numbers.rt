@@ -6,10 +6,5 @@ ghost use Rattle.fields.specs.Numbers.{among};
 pub fn is_among(n: u16, numbers: &[u16]) -> bool
     ensures { result ≡ among n numbers.now }
 {
-    for m in numbers {
-        if *m == n {
-            return true;
-        }
-    }
-    false
+    numbers.contains(&n)
 }

@@ -1,20 +1,49 @@
 // The fields of remainders by a prime number.
-ghost use Rattle.std.specs.Prelude.{◌≡◌, ℕ, ◌*◌, ◌%◌, ◌<◌, T};
+ghost use Rattle.std.specs.Prelude.{◌≡◌, ℕ, ◌*◌, ◌%◌, ◌<◌, IsTrue};
 ghost use Rattle.fields.specs.Arithmetic.{partner};
-ghost use Rattle.fields.specs.Primes.{IsPrime, listed, residues};
+ghost use Rattle.fields.specs.Numbers.{among};
+ghost use Rattle.fields.specs.Primes.{IsPrime, listed, moduli, residues};
 ghost use Rattle.fields.specs.Primality.{listed-sizes};
 ghost use Rattle.fields.specs.Remainders.{residues-sums, residues-products, residues-inverses};
 
+use crate::fault::FieldFault;
 use crate::field::{Field, counted_below};
+use crate::numbers::is_among;
 
-mod make;
+// The listed moduli: the primes below 100 and three larger ones.
+#[rattlefmt::skip]
+const MODULI: [u16; 28] = [
+    2, 3, 5, 7, 11, 13, 17, 19, 23, 29, 31, 37, 41, 43, 47, 53, 59, 61, 67, 71, 73, 79, 83, 89, 97, 929, 997, 65521,
+];
+
+// Whether a prime field may have the modulus.
+fn is_listed(modulus: u16) -> bool
+    ensures { result ≡ among modulus moduli }
+{
+    is_among(modulus, &MODULI)
+}
 
 // The numbers below a prime modulus that is listed.
 #[derive(Clone, Copy)]
 pub struct Prime {
     modulus: u16,
     ghost prime: { IsPrime modulus },
-    ghost known: { T (listed modulus) },
+    ghost known: { IsTrue (listed modulus) },
+}
+
+impl Prime {
+    ghost use Rattle.fields.specs.Made.{Made};
+
+    // The field of remainders by a listed modulus.
+    pub fn new(modulus: u16) -> Result<Prime, FieldFault>
+        ensures { Made modulus result }
+    {
+        if is_listed(modulus) {
+            Ok(Prime { modulus })
+        } else {
+            Err(FieldFault::Unlisted)
+        }
+    }
 }
 
 impl Field for Prime {
@@ -33,27 +62,27 @@ impl Field for Prime {
     }
 
     fn add(&self, a: u16, b: u16) -> u16 {
-        let p = self.modulus as u32;
-        let a = counted_below(p, a) as u32;
-        let b = counted_below(p, b) as u32;
+        let p = u32::from(self.modulus);
+        let a = u32::from(counted_below(p, a));
+        let b = u32::from(counted_below(p, b));
         ((a + b) % p) as u16
     }
 
     fn negate(&self, a: u16) -> u16 {
-        let p = self.modulus as u32;
-        let a = counted_below(p, a) as u32;
+        let p = u32::from(self.modulus);
+        let a = u32::from(counted_below(p, a));
         ((p - a) % p) as u16
     }
 
     fn multiply(&self, a: u16, b: u16) -> u16 {
-        let p = self.modulus as u32;
-        let a = counted_below(p, a) as u32;
-        let b = counted_below(p, b) as u32;
+        let p = u32::from(self.modulus);
+        let a = u32::from(counted_below(p, a));
+        let b = u32::from(counted_below(p, b));
         (a * b % p) as u16
     }
 
     fn inverse(&self, a: u16) -> Option<u16> {
-        let a = counted_below(self.modulus as u32, a);
+        let a = counted_below(u32::from(self.modulus), a);
         if a == 0 {
             None
         } else {
