@@ -1,10 +1,10 @@
 // The field of 256 elements: polynomials over the two-element field, modulo the polynomial numbered 285.
 ghost use Rattle.std.specs.Prelude.{◌≡◌, ℕ, ◌<◌};
-ghost use Rattle.fields.specs.Arithmetic.{partner};
+ghost use Rattle.fields.specs.Arithmetic.{counted, partner};
 ghost use Rattle.fields.specs.Binary.{carryless, remainder, product, bytes, Remains};
 ghost use Rattle.fields.specs.Bytes.{bytes-sizes, bytes-sums, bytes-products, bytes-inverses};
 
-use crate::field::{Field, counted_below};
+use crate::field::Field;
 
 // x⁸ + x⁴ + x³ + x² + 1
 const POLYNOMIAL: u16 = 285;
@@ -39,32 +39,39 @@ impl Field for Gf256 {
     }
 
     fn add(&self, a: u16, b: u16) -> u16 {
-        counted_below(256, a) ^ counted_below(256, b)
+        u16::from(counted_byte(a) ^ counted_byte(b))
     }
 
     fn negate(&self, a: u16) -> u16 {
-        counted_below(256, a)
+        u16::from(counted_byte(a))
     }
 
     fn multiply(&self, a: u16, b: u16) -> u16 {
-        multiply_below(counted_below(256, a), counted_below(256, b))
+        u16::from(multiply_bytes(counted_byte(a), counted_byte(b)))
     }
 
     fn inverse(&self, a: u16) -> Option<u16> {
-        let a = counted_below(256, a);
-        if a == 0 { None } else { Some(inverse_of(a)) }
+        match counted_byte(a) {
+            0 => None,
+            a => Some(u16::from(inverse_of(a))),
+        }
     }
 }
 
+// What an argument counts as: a number of the field is a byte.
+fn counted_byte(a: u16) -> u8
+    ensures { result ≡ counted 256 a }
+{
+    u8::try_from(a).unwrap_or(0)
+}
+
 // The carry-less product of two polynomials of degree below 8.
-fn multiply_carryless(a: u16, b: u16) -> u16
-    requires first { a < 256 }
-    requires second { b < 256 }
+fn multiply_carryless(a: u8, b: u8) -> u16
     ensures { result ≡ carryless 8 a b }
 {
     let mut sum: u16 = 0;
     for i in 0..8u32 {
-        sum ^= (b >> i) % 2 * (a << i);
+        sum ^= (b as u16 >> i) % 2 * ((a as u16) << i);
     }
     sum
 }
@@ -90,25 +97,22 @@ pub fn reduce(x: u16) -> u16
 }
 
 // The product of two numbers of the field.
-fn multiply_below(a: u16, b: u16) -> u16
-    requires first { a < 256 }
-    requires second { b < 256 }
+fn multiply_bytes(a: u8, b: u8) -> u8
     ensures { result ≡ product a b }
 {
-    reduce_by(POLYNOMIAL, multiply_carryless(a, b))
+    reduce_by(POLYNOMIAL, multiply_carryless(a, b)) as u8
 }
 
 // The inverse of a number other than 0, which is its 254th power: the product of its 2nd, 4th, 8th .. 128th.
-fn inverse_of(a: u16) -> u16
-    requires nonzero { 0 < a }
-    requires below { a < 256 }
+fn inverse_of(a: u8) -> u8
+    requires { 0 < a }
     ensures { result ≡ partner 256 product a }
 {
     let mut square = a;
-    let mut powers: u16 = 1;
+    let mut powers: u8 = 1;
     for _ in 0..7u32 {
-        square = multiply_below(square, square);
-        powers = multiply_below(powers, square);
+        square = multiply_bytes(square, square);
+        powers = multiply_bytes(powers, square);
     }
     powers
 }
