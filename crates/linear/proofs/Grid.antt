@@ -1,5 +1,5 @@
 -- Rows of w numbers one after another.
-use Rattle.std.proofs.Common.{◌≡◌, ℕ, suc, ◌+◌, ◌-◌, ◌*◌, ◌<◌, ◌≤◌, ◌≢◌, List, ◌++◌, length, get_or, take, drop, sym, ap, ◌∙◌, subst, ap₂, mul-le-mul_right, suc-mul, zero-mul, arith, below_more}
+use Rattle.std.proofs.Common.{◌≡◌, ℕ, suc, ◌+◌, ◌-◌, ◌*◌, ◌<◌, ◌≤◌, ◌≢◌, Some, None, Option, List, ◌++◌, length, get_or, take, drop, sym, ap, ◌∙◌, subst, ap₂, mul-le-mul_right, suc-mul, zero-mul, arith, below_more}
 use native.Mathlib.Decide.{dec_lt}
 use borrow.Rule.Slice.PartMut.{put_mid}
 use Rattle.std.proofs.ByRecursion.{All-take, All-drop}
@@ -7,7 +7,8 @@ use Rattle.std.proofs.lemmas.List.{drop_more, drop-take, get_or-take, get_or-dro
 use Rattle.std.proofs.lemmas.Slice.{take-put_mid_below, drop-put_mid}
 use Rattle.fields.specs.Arithmetic.{Arithmetic}
 use Rattle.fields.specs.Numbers.{Below}
-use Rattle.linear.specs.Equations.{row, dot}
+use Rattle.std.specs.Option.{MatchOption}
+use Rattle.linear.specs.Equations.{row, dot, Pivot}
 
 -- row k ends before row n begins
 pub row_ends : (k n w : ℕ) → k < n → k * w + w ≤ n * w
@@ -78,3 +79,9 @@ row-taken w i m s h =
 -- rows of numbers below q, from a list of them
 pub below_row : (q w i m : ℕ) (s : List ℕ) → i * w + w ≤ m → Below q (take m s) → Below q (row w i s)
 below_row q w i m s h b = subst (Below q) (row-taken w i m s h) (All-take (λ x. x < q) w (drop (i * w) (take m s)) (All-drop (λ x. x < q) (i * w) (take m s) b))
+
+-- what a search of the rows from the first finds
+pub pivot_from : (w c n : ℕ) (s : List ℕ) (r : Option ℕ) → MatchOption r ((k : ℕ) → 0 ≤ k → k < n → get_or s (k * w + c) 0 ≡ 0) (λ p. (0 ≤ p) × (p < n) × (get_or s (p * w + c) 0 ≢ 0) × ((k : ℕ) → 0 ≤ k → k < p → get_or s (k * w + c) 0 ≡ 0))
+    → Pivot w c n s r
+pivot_from w c n s None h = λ k l. h k (omega arith) l
+pivot_from w c n s (Some p) h = (h.1, (λ k l. h.3 k (omega arith) l), h.2)

@@ -21,17 +21,17 @@ passed_found None fault rest e = (refl, e)
 
 pub passed_system : (q n w : ℕ) (s : List ℕ) → Ok tt ≡ solve_check q s n w → (n < w) × ((n + 1) * w ≤ length s) × Below q (take (n * w) s)
 passed_system q n w s e =
-    let numbers = unless_found (stray q 0 (take (n * w) s)) Number (Ok tt) in
+    let numbers = unless_found (stray q (take (n * w) s)) Number (Ok tt) in
     let unknowns = passed_unless (ltb n w) Unknowns (unless (leb ((n + 1) * w) (length s)) Scratch numbers) e in
     let room = passed_unless (leb ((n + 1) * w) (length s)) Scratch numbers unknowns.1 in (
       ltb-true n w unknowns.0,
       leb-true ((n + 1) * w) (length s) room.0,
-      below-from_stray q 0 (take (n * w) s) (passed_found (stray q 0 (take (n * w) s)) Number (Ok tt) room.1).0,
+      below-from_stray q (take (n * w) s) (passed_found (stray q (take (n * w) s)) Number (Ok tt) room.1).0,
     )
 
 pub passed_numbers : (q : ℕ) (p s : List ℕ) (room : ℕ) → Ok tt ≡ numbers_check q p s room → (room ≡ length p) × Below q p × Below q s
 passed_numbers q p s room e =
-    let divisor = unless_found (stray q 0 s) Divisor (Ok tt) in
-    let long = passed_unless (eqb room (length p)) Length (unless_found (stray q 0 p) Dividend divisor) e in
-    let dividend = passed_found (stray q 0 p) Dividend divisor long.1 in
-    (eqb-true room (length p) long.0, below-from_stray q 0 p dividend.0, below-from_stray q 0 s (passed_found (stray q 0 s) Divisor (Ok tt) dividend.1).0)
+    let divisor = unless_found (stray q s) Divisor (Ok tt) in
+    let long = passed_unless (eqb room (length p)) Length (unless_found (stray q p) Dividend divisor) e in
+    let dividend = passed_found (stray q p) Dividend divisor long.1 in
+    (eqb-true room (length p) long.0, below-from_stray q p dividend.0, below-from_stray q s (passed_found (stray q s) Divisor (Ok tt) dividend.1).0)

@@ -1,21 +1,22 @@
 -- What the searches in lists of numbers find.
-use Rattle.std.proofs.Common.{◌≡◌, ℕ, zero, suc, ◌+◌, ◌<◌, Bool, true, false, cond, not, ◌||◌, eqb, ltb, ◌≢◌, List, [], ◌∷◌, length, get_or, drop, Some, None, refl, ap, ◌∙◌, arith, ltb-true, eq-eqb, ne_eqb}
-use Rattle.std.proofs.lemmas.List.{at_drop_more}
+use Rattle.std.proofs.Common.{◌≡◌, ℕ, zero, suc, ◌+◌, ◌≤◌, Bool, true, false, cond, not, ◌||◌, eqb, leb, ◌≢◌, List, [], ◌∷◌, length, get_or, None, refl, ap, ◌∙◌, arith, leb-false, eq-eqb, ne_eqb}
+use Rattle.std.proofs.lemmas.Grind.{common_steps}
+use Rattle.std.specs.List.{position_or_len}
 use Rattle.fields.specs.Numbers.{Below, Zeros}
 use Rattle.linear.specs.Checks.{stray, nonzero}
 
--- a step of the search for a number that is not below q
-pub stray-more : (q : ℕ) (xs : List ℕ) (i : ℕ) → i < length xs → stray q i (drop i xs) ≡ cond (ltb (get_or xs i 0) q) (stray q (i + 1) (drop (i + 1) xs)) (Some i)
-stray-more q xs i h = at_drop_more (stray q i) xs i 0 h
-
--- where it finds none, all numbers are below q
-pub below-from_stray : (q i : ℕ) (xs : List ℕ) → None ≡ stray q i xs → Below q xs
-below-from_stray q i [] e = tt
-below-from_stray q i (x ∷ xs) e = go (ltb x q) refl e (below-from_stray q (i + 1) xs)
+-- where the search for a number that is not below q ends at the list's end, all numbers are below q
+below-from_end : (q : ℕ) (xs : List ℕ) → length xs ≤ position_or_len (λ x. leb q x) xs → Below q xs
+below-from_end q [] h = tt
+below-from_end q (x ∷ xs) h = go (leb q x) refl h (below-from_end q xs)
   where
-    go : (b : Bool) → ltb x q ≡ b → None ≡ cond b (stray q (i + 1) xs) (Some i) → (None ≡ stray q (i + 1) xs → Below q xs) → Below q (x ∷ xs)
-    go true h e rest = (ltb-true x q h, rest e)
-    go false h e rest = let z : ◌≡◌ {A = ℕ} 0 1 = cc in absurd (omega arith)
+    go : (b : Bool) → leb q x ≡ b → suc (length xs) ≤ cond (not b) (1 + position_or_len (λ y. leb q y) xs) 0 → (length xs ≤ position_or_len (λ y. leb q y) xs → Below q xs) → Below q (x ∷ xs)
+    go true e h rest = absurd (omega arith)
+    go false e h rest = (leb-false q x e, rest (omega arith))
+
+-- where it finds none, they all are
+pub below-from_stray : (q : ℕ) (xs : List ℕ) → None ≡ stray q xs → Below q xs
+below-from_stray q xs e = let h : length xs ≤ position_or_len (λ x. leb q x) xs = grind (arith, common_steps) in below-from_end q xs h
 
 pub nonzero-none : (xs : List ℕ) → Zeros xs → nonzero xs ≡ false
 nonzero-none [] z = refl

@@ -38,8 +38,8 @@ pub record Divided (F : Arithmetic) (p s quotient remainder : List ℕ) : Type 0
 abbrev pub numbers_check : ℕ → List ℕ → List ℕ → ℕ → Check DivideFault
 numbers_check q p s room =
     unless (room == length p) Length
-    (unless_found (stray q 0 p) Dividend
-    (unless_found (stray q 0 s) Divisor (Ok tt)))
+    (unless_found (stray q p) Dividend
+    (unless_found (stray q s) Divisor (Ok tt)))
 
 -- and a divisor other than 0
 abbrev pub divide_check : ℕ → List ℕ → List ℕ → ℕ → Check DivideFault

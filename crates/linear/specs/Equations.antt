@@ -1,5 +1,5 @@
 -- Homogeneous linear equations: rows of w coefficients that lie one after another in a list.
-use Rattle.std.specs.Prelude.{◌≡◌, ℕ, ◌+◌, ◌*◌, ◌<◌, List, [], ◌∷◌, length, take, drop, Ok, Err, nat_le, nat_lt, slice_index}
+use Rattle.std.specs.Prelude.{◌≡◌, ℕ, ◌+◌, ◌*◌, ◌<◌, List, [], ◌∷◌, length, take, drop, ◌≢◌, Some, None, Ok, Err, Option, nat_le, nat_lt, slice_index}
 use Rattle.fields.specs.Arithmetic.{Arithmetic}
 use Rattle.fields.specs.Numbers.{Below, Zeros}
 use Rattle.fields.specs.Checks.{Check, unless}
@@ -34,6 +34,11 @@ Keeps F w c n s s' = (u : List ℕ) → Solves F w c n s' u → Solves F w c n s
 abbrev pub Cleared : Arithmetic → ℕ → ℕ → ℕ → List ℕ → List ℕ → List ℕ → Type 0
 Cleared F w c n s s' pivot = (k : ℕ) → k < n → row w k s' ≡ reduced F (row w k s) (slice_index (row w k s) c) pivot
 
+-- the first of the n rows whose number in column c is not 0, if any is
+abbrev pub Pivot : ℕ → ℕ → ℕ → List ℕ → Option ℕ → Type 0
+Pivot w c n s None = (k : ℕ) → k < n → slice_index s (k * w + c) ≡ 0
+Pivot w c n s (Some p) = (p < n) × ((k : ℕ) → k < p → slice_index s (k * w + c) ≡ 0) × (slice_index s (p * w + c) ≢ 0)
+
 -- the first n rows have numbers of the field
 abbrev pub Grid : Arithmetic → ℕ → ℕ → List ℕ → Type 0
 Grid F w n s = (i : ℕ) → i < n → Below F.order (row w i s)
@@ -52,7 +57,7 @@ abbrev pub solve_check : ℕ → List ℕ → ℕ → ℕ → Check SolveFault
 solve_check q s n w =
     unless (nat_lt n w) Unknowns
     (unless (nat_le ((n + 1) * w) (length s)) Scratch
-    (unless_found (stray q 0 (take (n * w) s)) Number (Ok tt)))
+    (unless_found (stray q (take (n * w) s)) Number (Ok tt)))
 
 -- what solving n equations leaves in the scratch s and in v: a solution, or what they held where it is refused
 abbrev pub Solved : Arithmetic → ℕ → (s s' v v' : List ℕ) → Check SolveFault → Type 0

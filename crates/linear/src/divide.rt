@@ -53,12 +53,7 @@ fn check_division(
 fn find_lead(numbers: &[u16]) -> Option<usize>
     ensures { Highest numbers.now result }
 {
-    for i in (0..numbers.len()).rev() {
-        if numbers[i] != 0 {
-            return Some(i);
-        }
-    }
-    None
+    numbers.iter().rposition(|x| *x != 0)
 }
 
 // Long division by a divisor whose highest number other than 0 stands at `lead`: from the highest place of the quotient down,

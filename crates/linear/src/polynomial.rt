@@ -12,8 +12,8 @@ pub fn evaluate<F: Field>(f: &F, p: &[u16], x: u16) -> u16
     ensures { result ≡ value (operations F.Field f.now) p.now x }
 {
     let mut sum = 0;
-    for i in (0..p.len()).rev() {
-        sum = f.add(p[i], f.multiply(x, sum));
+    for a in p.iter().rev() {
+        sum = f.add(*a, f.multiply(x, sum));
     }
     sum
 }

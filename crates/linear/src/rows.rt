@@ -21,6 +21,7 @@ pub fn subtract_row<F: Field>(f: &F, target: &mut [u16], by: u16, pivot: &[u16])
     ensures { target.new ≡ reduced (operations F.Field f.now) target.old by pivot.now }
 {
     let opposite = f.negate(by);
+    // By index, since after a `zip` with `iter_mut` a proof knows nothing of what was written.
     for (i, x) in target.iter_mut().enumerate() {
         *x = f.add(*x, f.multiply(opposite, pivot[i]));
     }
@@ -32,8 +33,8 @@ pub fn multiply_rows<F: Field>(f: &F, a: &[u16], b: &[u16]) -> u16
     ensures { result ≡ dot (operations F.Field f.now) a.now b.now }
 {
     let mut sum = 0;
-    for i in (0..a.len()).rev() {
-        sum = f.add(f.multiply(a[i], b[i]), sum);
+    for (x, y) in a.iter().zip(b) {
+        sum = f.add(sum, f.multiply(*x, *y));
     }
     sum
 }

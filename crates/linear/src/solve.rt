@@ -1,7 +1,7 @@
 // Homogeneous linear equations over any field, by elimination.
 ghost use Rattle.std.specs.Prelude.{◌≡◌, ℕ, ◌+◌, ◌*◌, ◌<◌, ◌≤◌, true, false, ◌≢◌, length, drop, slice_index};
 ghost use Rattle.fields.specs.Numbers.{Below, Zeros};
-ghost use Rattle.linear.specs.Equations.{row, Solves, Keeps, Cleared, Grid, Solution, Solved, solve_check};
+ghost use Rattle.linear.specs.Equations.{row, Pivot, Solves, Keeps, Cleared, Grid, Solution, Solved, solve_check};
 ghost use Rattle.linear.specs.Operations.{operations};
 
 use crate::fault::SolveFault;
@@ -114,10 +114,9 @@ fn place_pivot<F: Field>(
     ensures grid { result ≡ true → Grid (operations F.Field f.now) w count rows.new }
     ensures keeps { result ≡ true → Keeps (operations F.Field f.now) w c count rows.old rows.new }
 {
-    let p = find_pivot(rows, w, count, c);
-    if p == count {
+    let Some(p) = find_pivot(rows, w, count, c) else {
         return false;
-    }
+    };
     if p > 0 {
         spare.copy_from_slice(&rows[p * w..p * w + w]);
         subtract_row(f, &mut rows[0..w], 1, spare);
@@ -125,20 +124,13 @@ fn place_pivot<F: Field>(
     true
 }
 
-// The first of the rows with a number other than 0 in column `c`, or `count` where there is none.
-fn find_pivot(rows: &[u16], w: usize, count: usize, c: usize) -> usize
+// The first of the rows with a number other than 0 in column `c`.
+fn find_pivot(rows: &[u16], w: usize, count: usize, c: usize) -> Option<usize>
     requires size { count * w ≤ length rows.now }
     requires column { c < w }
-    ensures within { result ≤ count }
-    ensures before { (k : ℕ) → k < result → slice_index rows.now (k * w + c) ≡ 0 }
-    ensures found { result < count → slice_index rows.now (result * w + c) ≢ 0 }
+    ensures { Pivot w c count rows.now result }
 {
-    for k in 0..count {
-        if rows[k * w + c] != 0 {
-            return k;
-        }
-    }
-    count
+    (0..count).find(|k| rows[k * w + c] != 0)
 }
 
 // Subtracts from each row the multiple of the pivot row that makes its number in column `c` 0, where the pivot row has a 1.
@@ -148,6 +140,7 @@ fn clear_column<F: Field>(f: &F, rows: &mut [u16], w: usize, count: usize, c: us
     requires wide { length pivot.now ≡ w }
     ensures { Cleared (operations F.Field f.now) w c count rows.old rows.new pivot.now }
 {
+    // A row in the middle of the scratch is lent; a proof knows nothing of what is written through `chunks_exact_mut`.
     for k in 0..count {
         let from = k * w;
         let by = rows[from + c];

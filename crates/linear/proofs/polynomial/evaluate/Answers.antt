@@ -1,20 +1,23 @@
-use Rattle.std.proofs.Common.{◌≡◌, ◌-◌, length, get_or, drop, sym, ap, ◌∙◌, arith}
-use Rattle.std.proofs.lemmas.List.{drop_all}
+use Rattle.std.proofs.Common.{◌≡◌, sym, ap, ◌∙◌}
+use Rattle.std.proofs.lemmas.List.{nil_from_length}
 use Rattle.linear.specs.Operations.{operations}
-use Rattle.linear.specs.Polynomials.{value}
-use Rattle.linear.proofs.Lists.{value-more}
+use Rattle.linear.proofs.Lists.{value-onto, value-onto_zero, value-onto_push}
 use Rattle.linear.proofs.polynomial.evaluate.Goals as goal
 
-pub loop-i-init : goal.loop-i-init
-loop-i-init g c = ap (λ p. value (operations g.F.Field c.args.f.now) p c.args.x) (sym (drop_all (length c.args.p.now) c.args.p.now (omega arith)))
-
-pub loop-i-preserved : goal.loop-i-preserved
-loop-i-preserved g c =
+pub loop-a-init : goal.loop-a-init
+loop-a-init g c =
     let F = operations g.F.Field c.args.f.now in
-    c.add-sum.ensures ∙ ap (F.plus (get_or c.args.p.now (c.loop-i.i - 1) 0)) c.multiply.ensures
-    ∙ value-more F c.args.p.now (c.loop-i.i - 1) c.loop-i.i c.loop-i.sum c.args.x (omega arith) (omega arith) c.loop-i.invariant
+    let all : c.into_iter-a-iterator.result.iter.rest.now ≡ c.args.p.now = cc in
+    value-onto_zero F c.args.p.now c.args.x ∙ ap (λ p. value-onto F p c.args.x 0) (sym all)
+
+pub loop-a-preserved : goal.loop-a-preserved
+loop-a-preserved g c =
+    let F = operations g.F.Field c.args.f.now in
+    c.loop-a.invariant ∙ ap (λ p. value-onto F p c.args.x c.loop-a.sum) c.in-Some.ensures.steps
+    ∙ value-onto_push F c.next.new.self.iter.rest.now c.in-Some.a.now c.args.x c.loop-a.sum
+    ∙ ap (value-onto F c.next.new.self.iter.rest.now c.args.x) (sym (c.add-sum.ensures ∙ ap (F.plus c.in-Some.a.now) c.multiply.ensures))
 
 pub returns : goal.returns
 returns g c =
-    let none : c.loop-i.i ≡ 0 = omega arith in
-    c.loop-i.invariant ∙ ap (λ n. value (operations g.F.Field c.args.f.now) (drop n c.args.p.now) c.args.x) none
+    let F = operations g.F.Field c.args.f.now in
+    sym (c.loop-a.invariant ∙ ap (λ p. value-onto F p c.args.x c.loop-a.sum) (nil_from_length c.loop-a.a-iterator.iter.rest.now c.in-None.ensures.steps.0))

@@ -1,9 +1,11 @@
-use Rattle.std.proofs.Common.{arith}
-use Rattle.linear.proofs.Grid.{row_ends}
+use Rattle.std.proofs.Common.{◌≡◌, ℕ, ◌+◌, ◌*◌, ◌≢◌, get_or, rules}
+use Rattle.std.proofs.lemmas.Iterator.{first_from_Range}
+use borrow.Author.Tests.{tests}
+use Rattle.linear.proofs.Grid.{pivot_from}
 use Rattle.linear.proofs.solve.find_pivot.Goals as goal
 
-pub offset_bounds-rows-k : goal.offset_bounds-rows-k
-offset_bounds-rows-k c = omega (arith, row_ends c.loop-k.k c.args.count c.args.w c.loop-k-test.true)
-
-pub bounds-rows-k : goal.bounds-rows-k
-bounds-rows-k c = omega (arith, row_ends c.loop-k.k c.args.count c.args.w c.loop-k-test.true)
+pub returns : goal.returns
+returns c =
+    let at : ℕ → ℕ = λ k. get_or c.args.rows.now (k * c.args.w + c.args.c) 0 in
+    pivot_from c.args.w c.args.c c.args.count c.args.rows.now c.find.result
+    (first_from_Range _ _ _ _ (λ k. at k ≢ 0) (λ k. at k ≡ 0) c.find.ensures.ran (λ x q k. search (rules, tests)) (λ x q k. search (rules, tests)))

@@ -8,9 +8,9 @@ use Rattle.linear.proofs.Grid.{row_ends, get_or-row, row_zero}
 use Rattle.linear.proofs.Kernel.{raised_lead, raised_grid, raised_keeps}
 use Rattle.linear.proofs.solve.place_pivot.Goals as goal
 
-pub returns-then-p-count : goal.returns-then-p-count
-returns-then-p-count g c = record {
-  none = λ _ i h. get_or-row c.args.w i c.args.c c.args.rows.now (omega arith) ∙ c.find_pivot-p.ensures.before i (omega arith);
+pub returns-in_default : goal.returns-in_default
+returns-in_default g c = record {
+  none = λ _ i h. get_or-row c.args.w i c.args.c c.args.rows.now (omega arith) ∙ c.in_default.ensures i h;
   some = λ e. absurd (clash e);
   lead = λ e. absurd (clash e);
   grid = λ e. absurd (clash e);
@@ -18,13 +18,13 @@ returns-then-p-count g c = record {
 }
 
 pub offset_bounds-rows-p : goal.offset_bounds-rows-p
-offset_bounds-rows-p g c = omega (arith, row_ends c.find_pivot-p.result c.args.count c.args.w (omega arith))
+offset_bounds-rows-p g c = omega (arith, row_ends c.in-Some.p c.args.count c.args.w c.in-Some.ensures.0)
 
 pub slice_bounds-copy_from_slice-end : goal.slice_bounds-copy_from_slice-end
-slice_bounds-copy_from_slice-end g c = omega (arith, row_ends c.find_pivot-p.result c.args.count c.args.w (omega arith))
+slice_bounds-copy_from_slice-end g c = omega (arith, row_ends c.in-Some.p c.args.count c.args.w c.in-Some.ensures.0)
 
 pub slice_bounds-subtract_row-end : goal.slice_bounds-subtract_row-end
-slice_bounds-subtract_row-end g c = omega (arith, row_ends c.find_pivot-p.result c.args.count c.args.w (omega arith))
+slice_bounds-subtract_row-end g c = omega (arith, row_ends c.in-Some.p c.args.count c.args.w c.in-Some.ensures.0)
 
 pub returns-then-p-gt0 : goal.returns-then-p-gt0
 returns-then-p-gt0 g c =
@@ -33,12 +33,13 @@ returns-then-p-gt0 g c =
     let L : TotalLaws F = lawful g.F.Field f (g.met.F.Field.sizes f) (g.met.F.Field.sums f) (g.met.F.Field.products f) (g.met.F.Field.inverses f) in
     let w = c.args.w in
     let n = c.args.count in
-    let p = c.find_pivot-p.result in
+    let p = c.in-Some.p in
+    let found = c.in-Some.ensures in
     let s = c.args.rows.now in
     let ys = c.subtract_row.new.target in
     let k = p - 1 in
     let pk : p ≡ suc k = omega arith in
-    let within : suc k < n = omega arith in
+    let within : suc k < n = omega (arith, found.0) in
     let whole : w - 0 ≡ w = omega arith in
     let width : p * w + w - p * w ≡ w = omega arith in
     let t : drop (w - 0) s ≡ drop w s = ap (λ m. drop m s) whole in
@@ -47,10 +48,10 @@ returns-then-p-gt0 g c =
     let is : ys ≡ reduced F (row w 0 s) 1 (row w (suc k) s) = c.subtract_row.ensures ∙ ap₂ (λ a b. reduced F a 1 b) front spare in
     record {
       none = λ e. absurd (clash (sym e));
-      some = λ _. omega arith;
+      some = λ _. omega (arith, found.0);
       lead = λ _. subst (λ (r : List ℕ). get_or (ys ++ r) c.args.c 0 ≢ 0) (sym t) (raised_lead F L w c.args.c n k s ys c.requires.size within is c.requires.column c.requires.grid
-          (get_or-row w 0 c.args.c s c.requires.column ∙ c.find_pivot-p.ensures.before 0 c.if-p-gt0.true)
-          (λ z. c.find_pivot-p.ensures.found (omega arith) (sym (get_or-row w p c.args.c s c.requires.column) ∙ ap (λ m. get_or (row w m s) c.args.c 0) pk ∙ z)));
+          (get_or-row w 0 c.args.c s c.requires.column ∙ found.1 0 c.if-p-gt0.true)
+          (λ z. found.2 (sym (get_or-row w p c.args.c s c.requires.column) ∙ ap (λ m. get_or (row w m s) c.args.c 0) pk ∙ z)));
       grid = λ _. subst (λ (r : List ℕ). Grid F w n (ys ++ r)) (sym t) (raised_grid F L w c.args.c n k s ys c.requires.size within is c.requires.grid);
       keeps = λ _ u h. raised_keeps F L w c.args.c n k s ys c.requires.size within is u (subst (λ (r : List ℕ). Solves F w c.args.c n (ys ++ r) u) t h);
     }
