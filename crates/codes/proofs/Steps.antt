@@ -1,26 +1,32 @@
 -- One step of each recursion over what is left of a list.
-use Rattle.std.proofs.Common.{◌≡◌, ℕ, ◌+◌, ◌<◌, ◌≤◌, min, cond, eqb, ltb, List, [], ◌∷◌, length, get_or, drop, Ok, refl, ◌∙◌, inl, inr, arith}
+use Rattle.std.proofs.Common.{◌≡◌, ℕ, ◌+◌, ◌<◌, ◌≤◌, min, Bool, true, false, cond, not, eqb, leb, ltb, List, [], ◌∷◌, length, get_or, drop, Some, Option, Ok, Err, sym, refl, ap, ltb-true, leb-true, ◌∙◌, ◌⊎◌, inl, inr, arith}
 use Rattle.std.proofs.lemmas.List.{at_drop_more, at_drop_all}
-use Rattle.std.proofs.lemmas.Bool.{cases_lt}
-use Rattle.fields.specs.Checks.{unless}
+use Rattle.std.proofs.lemmas.Bool.{cases_lt, leb-false, ltb-false}
+use Rattle.std.proofs.lemmas.Bool.Decides.{nat_tests}
+use Rattle.std.proofs.lemmas.Iterator.Adapters.{position_from-zero}
+use Rattle.std.specs.List.{position_from}
+use Rattle.fields.specs.Checks.{unless, unless_found, stray}
 use Rattle.codes.specs.Checks.{number_check, unmarked_check, zero_check}
 use Rattle.codes.specs.Words.{missing, wrong}
 use Rattle.codes.specs.declared.fault.CodeFault.TheVariants.{Number, Reach}
 
-pub numbers_more : (q : ℕ) (xs : List ℕ) (i : ℕ) → i < length xs
-    → number_check q i (drop i xs) ≡ unless (ltb (get_or xs i 0) q) (Number i) (number_check q (i + 1) (drop (i + 1) xs))
-numbers_more q xs i h = at_drop_more (number_check q i) xs i 0 h
+found-from : (q i : ℕ) (xs : List ℕ) → number_check q i xs ≡ unless_found (position_from (λ x. leb q x) i xs) Number (Ok tt)
+found-from q i [] = refl
+found-from q i (x ∷ xs) = go (leb q x) (ltb x q) refl refl (found-from q (i + 1) xs)
+  where
+    go : (a b : Bool) → leb q x ≡ a → ltb x q ≡ b → number_check q (i + 1) xs ≡ unless_found (position_from (λ y. leb q y) (i + 1) xs) Number (Ok tt)
+        → unless b (Number i) (number_check q (i + 1) xs) ≡ unless_found (cond a (Some i) (position_from (λ y. leb q y) (i + 1) xs)) Number (Ok tt)
+    go true true e f rest = let h = leb-true q x e in let l = ltb-true x q f in absurd (omega arith)
+    go true false e f rest = refl
+    go false true e f rest = rest
+    go false false e f rest = let h = leb-false q x e in let l = ltb-false x q f in absurd (omega arith)
+
+-- the check of numbers goes by the search for one that is not below q
+pub found_check : (q : ℕ) (xs : List ℕ) (o : Option ℕ) → o ≡ stray q xs → unless_found o Number (Ok tt) ≡ number_check q 0 xs
+found_check q xs o e = ap (λ r. unless_found r Number (Ok tt)) (e ∙ position_from-zero (λ x. leb q x) xs) ∙ sym (found-from q 0 xs)
 
 pub missing-more : (ms : List ℕ) (i : ℕ) → i < length ms → missing (drop i ms) ≡ cond (eqb (get_or ms i 0) 0) 0 1 + missing (drop (i + 1) ms)
 missing-more ms i h = at_drop_more missing ms i 0 h
-
-pub unmarked_more : (q : ℕ) (xs ms : List ℕ) (i : ℕ) → i < length xs → i < length ms
-    → unmarked_check q i (drop i xs) (drop i ms)
-    ≡ cond (eqb (get_or ms i 0) 0)
-    (unless (ltb (get_or xs i 0) q) (Number i) (unmarked_check q (i + 1) (drop (i + 1) xs) (drop (i + 1) ms)))
-    (unmarked_check q (i + 1) (drop (i + 1) xs) (drop (i + 1) ms))
-unmarked_more q xs ms i h l =
-    at_drop_more (λ x. unmarked_check q i x (drop i ms)) xs i 0 h ∙ at_drop_more (unmarked_check q i (get_or xs i 0 ∷ drop (i + 1) xs)) ms i 0 l
 
 pub wrong-more : (rs ms ws : List ℕ) (i : ℕ) → i < length rs → i < length ms → i < length ws
     → wrong (drop i rs) (drop i ms) (drop i ws)
@@ -30,17 +36,12 @@ wrong-more rs ms ws i a b c =
     ∙ at_drop_more (λ x. wrong (get_or rs i 0 ∷ drop (i + 1) rs) x (drop i ws)) ms i 0 b
     ∙ at_drop_more (λ x. wrong (get_or rs i 0 ∷ drop (i + 1) rs) (get_or ms i 0 ∷ drop (i + 1) ms) x) ws i 0 c
 
-no_marks : (q i : ℕ) (xs : List ℕ) → unmarked_check q i xs [] ≡ Ok tt
-no_marks q i [] = refl
-no_marks q i (x ∷ xs) = refl
-
 -- past the end of the shorter list nothing is checked
-pub unmarked_all : (q : ℕ) (xs ms : List ℕ) (i : ℕ) → min (length xs) (length ms) ≤ i → unmarked_check q i (drop i xs) (drop i ms) ≡ Ok tt
-unmarked_all q xs ms i h =
-    elim (cases_lt (length xs) (length ms)) [
-      | inl l ↦ at_drop_all (λ x. unmarked_check q i x (drop i ms)) xs i (omega (arith, l))
-      | inr l ↦ at_drop_all (unmarked_check q i (drop i xs)) ms i (omega (arith, l)) ∙ no_marks q i (drop i xs)
-    ]
+pub unmarked_end : (q i : ℕ) (xs ms : List ℕ) → (length xs ≡ 0) ⊎ (length ms ≡ 0) → unmarked_check q i xs ms ≡ Ok tt
+unmarked_end q i [] ms h = refl
+unmarked_end q i (x ∷ xs) [] h = refl
+unmarked_end q i (x ∷ xs) (m ∷ ms) (inl e) = absurd (omega arith)
+unmarked_end q i (x ∷ xs) (m ∷ ms) (inr e) = absurd (omega arith)
 
 pub zeros_more : (xs : List ℕ) (i : ℕ) → i < length xs → zero_check (drop i xs) ≡ unless (eqb (get_or xs i 0) 0) Reach (zero_check (drop (i + 1) xs))
 zeros_more xs i h = at_drop_more zero_check xs i 0 h

@@ -4,27 +4,25 @@ ghost use Rattle.codes.specs.Checks.{number_check, unmarked_check, zero_check};
 ghost use Rattle.codes.specs.Words.{missing};
 
 use crate::fault::CodeFault;
+use fields::numbers::find_stray;
 
 // Refuses the first number that is not below the order.
 pub fn check_numbers(order: u32, numbers: &[u16]) -> Result<(), CodeFault>
     ensures { result ≡ number_check order 0 numbers.now }
 {
-    for (place, number) in numbers.iter().enumerate() {
-        if u32::from(*number) >= order {
-            return Err(CodeFault::Number(place));
-        }
+    match find_stray(order, numbers) {
+        Some(place) => Err(CodeFault::Number(place)),
+        None => Ok(()),
     }
-    Ok(())
 }
 
 // Refuses the first number that is not below the order at a place that is marked by 0.
 pub fn check_unmarked(order: u32, numbers: &[u16], marks: &[u8]) -> Result<(), CodeFault>
     ensures { result ≡ unmarked_check order 0 numbers.now marks.now }
 {
-    let places = numbers.len().min(marks.len());
-    for i in 0..places {
-        if marks[i] == 0 && u32::from(numbers[i]) >= order {
-            return Err(CodeFault::Number(i));
+    for (place, (number, mark)) in numbers.iter().zip(marks).enumerate() {
+        if *mark == 0 && u32::from(*number) >= order {
+            return Err(CodeFault::Number(place));
         }
     }
     Ok(())

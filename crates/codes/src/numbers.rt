@@ -2,8 +2,6 @@
 ghost use Rattle.std.specs.Prelude.{◌≡◌, ℕ, List, length, replicate, slice_index};
 ghost use Rattle.codes.specs.Lists.{counting, filled};
 
-mod make;
-
 // A list that is asked for its numbers one by one.
 pub trait Numbers {
     ghost listed: { Self → List ℕ };
@@ -47,15 +45,26 @@ pub struct Upto {
     count: u16,
 }
 
+impl Upto {
+    ghost use Rattle.codes.specs.Made.{listed_by};
+
+    // The numbers 0 to `count` - 1.
+    pub fn new(count: u16) -> Upto
+        ensures { listed_by result ≡ counting 0 count }
+    {
+        Upto { count }
+    }
+}
+
 impl Numbers for Upto {
     ghost listed = { λ u. counting 0 u.count };
 
     fn count(&self) -> usize {
-        self.count as usize
+        usize::from(self.count)
     }
 
     fn at(&self, i: usize) -> u16 {
-        if i < self.count as usize { i as u16 } else { 0 }
+        if i < usize::from(self.count) { i as u16 } else { 0 }
     }
 }
 
@@ -63,7 +72,7 @@ impl Numbers for Upto {
 fn number_at(numbers: &[u16], i: usize) -> u16
     ensures { result ≡ slice_index numbers.now i }
 {
-    if i < numbers.len() { numbers[i] } else { 0 }
+    numbers.get(i).copied().unwrap_or(0)
 }
 
 // Room for the longest message or word.
@@ -78,8 +87,8 @@ pub fn gather<P: Numbers>(list: &P) -> [u16; 128]
     ensures { result ≡ filled 128 (P.Numbers.listed list.now) }
 {
     let mut numbers = blank();
-    for i in 0..128 {
-        numbers[i] = list.at(i);
+    for (i, number) in numbers.iter_mut().enumerate() {
+        *number = list.at(i);
     }
     numbers
 }

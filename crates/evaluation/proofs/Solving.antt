@@ -4,7 +4,8 @@ use Rattle.std.proofs.ByRecursion.{All-append}
 use Rattle.std.proofs.lemmas.List.{take-append-drop}
 use Rattle.std.proofs.lemmas.Bool.Decides.{nat_tests}
 use Rattle.fields.specs.Numbers.{Below, Zeros}
-use Rattle.linear.specs.Checks.{stray, nonzero}
+use Rattle.fields.specs.Checks.{stray}
+use Rattle.linear.specs.Checks.{nonzero}
 use Rattle.linear.specs.Division.{divide_check}
 use Rattle.linear.specs.Equations.{row, solve_check}
 use Rattle.linear.proofs.Grid.{row_zero, row-suc}

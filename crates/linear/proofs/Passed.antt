@@ -1,8 +1,7 @@
 -- What is known where the checks of a call passed.
 use Rattle.std.proofs.Common.{◌≡◌, ℕ, ◌+◌, ◌*◌, ◌<◌, ◌≤◌, Bool, true, false, eqb, ltb, leb, List, length, take, Some, None, Ok, Option, refl, arith, ltb-true, eqb-true, leb-true}
 use Rattle.fields.specs.Numbers.{Below}
-use Rattle.fields.specs.Checks.{Check, unless}
-use Rattle.linear.specs.Checks.{unless_found, stray}
+use Rattle.fields.specs.Checks.{Check, unless, unless_found, stray}
 use Rattle.linear.specs.Division.{numbers_check}
 use Rattle.linear.specs.Equations.{solve_check}
 use Rattle.linear.specs.declared.fault.DivideFault.TheVariants.{Length, Dividend, Divisor}

@@ -3,7 +3,8 @@ use Rattle.std.proofs.Common.{◌≡◌, ℕ, zero, suc, ◌+◌, ◌≤◌, Boo
 use Rattle.std.proofs.lemmas.Grind.{common_steps}
 use Rattle.std.specs.List.{position_or_len}
 use Rattle.fields.specs.Numbers.{Below, Zeros}
-use Rattle.linear.specs.Checks.{stray, nonzero}
+use Rattle.fields.specs.Checks.{stray}
+use Rattle.linear.specs.Checks.{nonzero}
 
 -- where the search for a number that is not below q ends at the list's end, all numbers are below q
 below-from_end : (q : ℕ) (xs : List ℕ) → length xs ≤ position_or_len (λ x. leb q x) xs → Below q xs

@@ -3,7 +3,8 @@ use Rattle.std.specs.Prelude.{◌≡◌, ℕ, ◌+◌, ◌<◌, ◌≢◌, List,
 use Rattle.fields.specs.Arithmetic.{Arithmetic}
 use Rattle.fields.specs.Numbers.{Below, Zeros}
 use Rattle.fields.specs.Checks.{Check, unless, and_then}
-use Rattle.linear.specs.Checks.{unless_found, stray, nonzero}
+use Rattle.fields.specs.Checks.{stray}
+use Rattle.linear.specs.Checks.{nonzero}
 use Rattle.linear.specs.Polynomials.{value, added, product, Same}
 use Rattle.linear.specs.declared.fault.DivideFault.{DivideFault}
 use Rattle.linear.specs.declared.fault.DivideFault.TheVariants.{Length, Dividend, Divisor, Zero}

@@ -2,8 +2,7 @@
 use Rattle.std.specs.Prelude.{◌≡◌, ℕ, ◌+◌, ◌*◌, ◌<◌, List, [], ◌∷◌, length, take, drop, ◌≢◌, Some, None, Ok, Err, Option, nat_le, nat_lt, slice_index}
 use Rattle.fields.specs.Arithmetic.{Arithmetic}
 use Rattle.fields.specs.Numbers.{Below, Zeros}
-use Rattle.fields.specs.Checks.{Check, unless}
-use Rattle.linear.specs.Checks.{unless_found, stray}
+use Rattle.fields.specs.Checks.{Check, unless, unless_found, stray}
 use Rattle.linear.specs.Polynomials.{added, scaled}
 use Rattle.linear.specs.declared.fault.SolveFault.{SolveFault}
 use Rattle.linear.specs.declared.fault.SolveFault.TheVariants.{Unknowns, Scratch, Number}

@@ -5,9 +5,9 @@ ghost use Rattle.linear.specs.Division.{Highest, Leads, Divided, Answered, numbe
 ghost use Rattle.linear.specs.Operations.{operations};
 
 use crate::fault::DivideFault;
-use crate::numbers::find_stray;
 use crate::rows::subtract_row;
 use fields::field::Field;
+use fields::numbers::find_stray;
 
 // Divides one polynomial by another, both with the constant first: the dividend's buffer is left with the remainder, and the
 // quotient's, which is as long, gets the quotient.

@@ -4,7 +4,6 @@
 
 pub mod divide;
 pub mod fault;
-mod numbers;
 pub mod polynomial;
 mod rows;
 pub mod solve;

@@ -5,9 +5,9 @@ ghost use Rattle.linear.specs.Equations.{row, Pivot, Solves, Keeps, Cleared, Gri
 ghost use Rattle.linear.specs.Operations.{operations};
 
 use crate::fault::SolveFault;
-use crate::numbers::find_stray;
 use crate::rows::{multiply_rows, scale_row, subtract_row};
 use fields::field::Field;
+use fields::numbers::find_stray;
 
 // Writes into `solution` numbers, not all of them 0, that solve `count` homogeneous equations in as many unknowns as it is long.
 // The coefficients stand in the scratch row after row, and one spare row follows them; what these rows hold afterwards is free.
