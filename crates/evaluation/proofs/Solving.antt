@@ -1,8 +1,11 @@
 -- The checks of the solver and of the division pass, and what a check for zeros says.
-use Rattle.std.proofs.Common.{◌≡◌, ℕ, zero, suc, ◌+◌, ◌*◌, ◌<◌, ◌≤◌, Bool, true, false, eqb, ltb, leb, List, [], ◌∷◌, length, take, drop, None, Ok, Err, refl, subst, suc-mul, arith, length-drop}
+use Rattle.std.proofs.Common.{◌≡◌, ℕ, zero, suc, ◌+◌, ◌*◌, ◌<◌, ◌≤◌, Bool, true, false, eqb, ltb, leb, List, [], ◌∷◌, length, take, drop, None, Ok, Err, refl, subst, ◌∙◌, suc-mul, arith, length-drop}
 use Rattle.std.proofs.ByRecursion.{All-append}
 use Rattle.std.proofs.lemmas.List.{take-append-drop}
+use Rattle.std.proofs.lemmas.Bool.{lt-leb}
 use Rattle.std.proofs.lemmas.Bool.Decides.{nat_tests}
+use Rattle.std.proofs.lemmas.Iterator.Adapters.{position_from-zero}
+use Rattle.std.specs.List.{position_from}
 use Rattle.fields.specs.Numbers.{Below, Zeros}
 use Rattle.fields.specs.Checks.{stray}
 use Rattle.linear.specs.Checks.{nonzero}
@@ -13,9 +16,12 @@ use Rattle.codes.specs.Checks.{zero_check}
 use Rattle.codes.specs.declared.fault.CodeFault.{CodeFault}
 use Rattle.codes.specs.declared.fault.CodeFault.TheVariants.{Reach}
 
-stray-none : (q i : ℕ) (xs : List ℕ) → Below q xs → stray q i xs ≡ None
-stray-none q i [] h = refl
-stray-none q i (x ∷ xs) h = let l = h.0 in let t : ltb x q ≡ true = grind (arith, nat_tests) in rw t (stray-none q (i + 1) xs h.1)
+none-from : (q i : ℕ) (xs : List ℕ) → Below q xs → position_from (λ x. leb q x) i xs ≡ None
+none-from q i [] h = refl
+none-from q i (x ∷ xs) h = let l = h.0 in let t : leb q x ≡ false = lt-leb q x l in rw t (none-from q (i + 1) xs h.1)
+
+stray-none : (q : ℕ) (xs : List ℕ) → Below q xs → stray q xs ≡ None
+stray-none q xs h = position_from-zero (λ x. leb q x) xs ∙ none-from q 0 xs h
 
 nonzero-true : (xs : List ℕ) → (Zeros xs → ⊥) → nonzero xs ≡ true
 nonzero-true [] h = absurd (h tt)
@@ -27,15 +33,15 @@ nonzero-true (x ∷ xs) h = go (eqb x 0) refl (λ n. nonzero-true xs n)
 
 pub divide_passes : (q : ℕ) (p s : List ℕ) (room : ℕ) → room ≡ length p → Below q p → Below q s → (Zeros s → ⊥) → divide_check q p s room ≡ Ok tt
 divide_passes q p s room e hp hs nz =
-    let a = stray-none q 0 p hp in
-    let b = stray-none q 0 s hs in
+    let a = stray-none q p hp in
+    let b = stray-none q s hs in
     let c = nonzero-true s nz in
     let t : eqb room (length p) ≡ true = grind (arith, nat_tests) in
     rw t (rw a (rw b (rw c refl)))
 
 pub solve_passes : (q : ℕ) (s : List ℕ) (n w : ℕ) → n < w → (n + 1) * w ≤ length s → Below q (take (n * w) s) → solve_check q s n w ≡ Ok tt
 solve_passes q s n w a b h =
-    let c = stray-none q 0 (take (n * w) s) h in
+    let c = stray-none q (take (n * w) s) h in
     let t : ltb n w ≡ true = grind (arith, nat_tests) in
     let u : leb ((n + 1) * w) (length s) ≡ true = grind (arith, nat_tests) in
     rw t (rw u (rw c refl))

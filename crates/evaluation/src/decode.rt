@@ -1,7 +1,7 @@
 // Decoding: with m unmarked places and t half of what they have more than the message, Q0 of m − t numbers and Q1 of t + 1,
 // not all of them 0, satisfy Q0(x) + y Q1(x) = 0 at each unmarked place. A message within reach is −Q0 / Q1, and where that is
 // a polynomial of as many numbers as a message has, it is within reach.
-ghost use Rattle.std.specs.Prelude.{◌≡◌, ℕ, ◌+◌, ◌*◌, ◌≤◌, map, length, if◌then◌else◌, nat_eq};
+ghost use Rattle.std.specs.Prelude.{◌≡◌, ℕ, ◌+◌, ◌*◌, ◌≤◌, map, length};
 ghost use Rattle.fields.specs.Numbers.{Below, Zeros};
 ghost use Rattle.linear.specs.Operations.{operations};
 ghost use Rattle.linear.specs.Polynomials.{word};
@@ -11,6 +11,7 @@ ghost use Rattle.evaluation.specs.Decoding.{present, Given, Located, Quotient};
 ghost use Rattle.evaluation.specs.Evaluation.{evaluation};
 
 use crate::equations::write_equations;
+use crate::received::ReceivedWord;
 use codes::checks::{check_zeros, count_missing};
 use codes::fault::CodeFault;
 use fields::field::Field;
@@ -21,49 +22,46 @@ use linear::solve::solve;
 // The message within reach and its wrong count, by way of a room of (n + 1) × (n + 3) numbers.
 pub fn decode_in<F: Field>(
     f: &F,
-    points: &[u16],
-    received: &[u16],
-    marks: &[u8],
+    received: &ReceivedWord<'_>,
     message: &mut [u16],
     room: &mut [u16],
 ) -> Result<usize, CodeFault>
-    requires given { Given (operations F.Field f.now).order points.now received.now marks.now }
+    requires given { let r = received.now in Given (operations F.Field f.now).order r.points.now r.numbers.now r.marks.now }
     requires dimension { 1 ≤ length message.old }
-    requires fits { length message.old ≤ length points.now }
-    requires room { (length points.now + 1) * (length points.now + 3) ≡ length room.old }
-    ensures { Solved (evaluation (F.Field.arithmetic f.now) (length points.now) (length message.old) points.now)
-        received.now marks.now message.old message.new result }
+    requires fits { length message.old ≤ length received.now.points.now }
+    requires room { let n = length received.now.points.now in (n + 1) * (n + 3) ≡ length room.old }
+    ensures { let r = received.now in Solved (evaluation (F.Field.arithmetic f.now) (length r.points.now) (length message.old) r.points.now)
+        r.numbers.now r.marks.now message.old message.new result }
 {
-    let m = points.len() - count_missing(marks);
+    let m = received.points.len() - count_missing(received.marks);
     if m < message.len() {
         return Err(CodeFault::Reach);
     }
-    locate(f, points, received, marks, m, message, room)?;
-    Ok(count_wrong(f, points, received, marks, message))
+    locate(f, received, m, message, room)?;
+    Ok(count_wrong(f, received, message))
 }
 
 // Solves the equations of the m unmarked places, and writes −Q0 / Q1.
 fn locate<F: Field>(
     f: &F,
-    points: &[u16],
-    received: &[u16],
-    marks: &[u8],
+    received: &ReceivedWord<'_>,
     m: usize,
     message: &mut [u16],
     room: &mut [u16],
 ) -> Result<(), CodeFault>
-    requires given { Given (operations F.Field f.now).order points.now received.now marks.now }
-    requires count { m ≡ length (present marks.now points.now) }
+    requires given { let r = received.now in Given (operations F.Field f.now).order r.points.now r.numbers.now r.marks.now }
+    requires count { let r = received.now in m ≡ length (present r.marks.now r.points.now) }
     requires enough { length message.old ≤ m }
     requires dimension { 1 ≤ length message.old }
     requires room { (m + 1) * (m + 3) ≤ length room.old }
-    ensures { Located (operations F.Field f.now) (present marks.now points.now) (present marks.now received.now) message.old message.new result }
+    ensures { let r = received.now in Located (operations F.Field f.now) (present r.marks.now r.points.now)
+        (present r.marks.now r.numbers.now) message.old message.new result }
 {
     let w = m + 1;
     let t = (m - message.len()) / 2;
     let (rows, rest) = room.split_at_mut(w * w);
     let (solution, quotient) = rest.split_at_mut(w);
-    write_equations(f, &mut rows[0..m * w], w, m - t, points, received, marks);
+    write_equations(f, received, m - t, w, &mut rows[0..m * w]);
     let Ok(()) = solve(f, rows, m, solution) else {
         unreachable()
     };
@@ -92,44 +90,29 @@ fn divide_out<F: Field>(
     let k = message.len();
     check_zeros(q0)?;
     check_zeros(&quotient[k..])?;
-    write_opposites(f, &quotient[0..k], message);
+    message.copy_from_slice(&quotient[0..k]);
+    negate_all(f, message);
     Ok(())
 }
 
-// The opposite of each number.
-fn write_opposites<F: Field>(f: &F, numbers: &[u16], out: &mut [u16])
-    requires { length out.old ≡ length numbers.now }
-    ensures { out.new ≡ map (operations F.Field f.now).opposite numbers.now }
+// Replaces each number by its opposite.
+fn negate_all<F: Field>(f: &F, numbers: &mut [u16])
+    ensures { numbers.new ≡ map (operations F.Field f.now).opposite numbers.old }
 {
-    for (i, x) in numbers.iter().enumerate() {
-        out[i] = f.negate(*x);
+    for x in numbers.iter_mut() {
+        *x = f.negate(*x);
     }
 }
 
 // In how many unmarked places the received number differs from the message's word.
-fn count_wrong<F: Field>(
-    f: &F,
-    points: &[u16],
-    received: &[u16],
-    marks: &[u8],
-    message: &[u16],
-) -> usize
-    requires points { length points.now ≡ length marks.now }
-    requires received { length received.now ≡ length marks.now }
-    ensures { result ≡ wrong received.now marks.now (word (operations F.Field f.now) points.now message.now) }
+fn count_wrong<F: Field>(f: &F, received: &ReceivedWord<'_>, message: &[u16]) -> usize
+    ensures { let r = received.now in result ≡ wrong r.numbers.now r.marks.now (word (operations F.Field f.now) r.points.now message.now) }
 {
-    let mut wrong = 0;
-    for (j, mark) in marks.iter().enumerate() {
-        if *mark == 0 {
-            wrong += differs(received[j], evaluate(f, message, points[j]));
+    let mut wrong: usize = 0;
+    for (j, mark) in received.marks.iter().enumerate() {
+        if *mark == 0 && received.numbers[j] != evaluate(f, message, received.points[j]) {
+            wrong += 1;
         }
     }
     wrong
-}
-
-// 1 where two numbers differ.
-fn differs(a: u16, b: u16) -> usize
-    ensures { result ≡ (if nat_eq a b then 0 else 1) }
-{
-    if a == b { 0 } else { 1 }
 }

@@ -3,29 +3,32 @@ ghost use Rattle.std.specs.Prelude.{◌≡◌, ℕ, ◌-◌, ◌*◌, ◌≤◌,
 ghost use Rattle.linear.specs.Operations.{operations};
 ghost use Rattle.evaluation.specs.Decoding.{present, powers, equation, Equations};
 
+use crate::received::ReceivedWord;
 use fields::field::Field;
 
-// One row for each place that is not marked: the coefficients of Q0(x) + y Q1(x), of which `a` are those of Q0.
+// One row of `w` coefficients for each place that is not marked: those of Q0(x) + y Q1(x), of which `a` are those of Q0.
 pub fn write_equations<F: Field>(
     f: &F,
-    rows: &mut [u16],
-    w: usize,
+    received: &ReceivedWord<'_>,
     a: usize,
-    points: &[u16],
-    received: &[u16],
-    marks: &[u8],
+    w: usize,
+    rows: &mut [u16],
 )
-    requires points { length points.now ≡ length marks.now }
-    requires received { length received.now ≡ length marks.now }
     requires split { a ≤ w }
-    requires size { length (present marks.now points.now) * w ≡ length rows.old }
-    ensures { Equations (operations F.Field f.now) w a (present marks.now points.now) (present marks.now received.now) rows.new }
+    requires size { let r = received.now in length (present r.marks.now r.points.now) * w ≡ length rows.old }
+    ensures { let r = received.now in Equations (operations F.Field f.now) w a (present r.marks.now r.points.now) (present r.marks.now r.numbers.now) rows.new }
 {
     let mut r = 0;
-    for j in 0..marks.len() {
-        if marks[j] == 0 {
+    for (j, mark) in received.marks.iter().enumerate() {
+        if *mark == 0 {
             let from = r * w;
-            write_equation(f, &mut rows[from..from + w], a, points[j], received[j]);
+            write_equation(
+                f,
+                &mut rows[from..from + w],
+                a,
+                received.points[j],
+                received.numbers[j],
+            );
             r += 1;
         }
     }

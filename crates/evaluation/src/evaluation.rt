@@ -9,13 +9,12 @@ ghost use Rattle.evaluation.specs.Evaluated.{proper_sound, needs_few};
 
 use crate::decode::decode_in;
 use crate::points::{check_points, check_shape};
+use crate::received::ReceivedWord;
 use codes::fault::{CodeFault, FitnessFault};
 use codes::interface::{Code, Issuer};
 use codes::numbers::{Numbers, gather};
 use fields::field::Field;
 use linear::polynomial::evaluate;
-
-mod make;
 
 // The code of `dimension` coefficients at `length` points of a field.
 #[derive(Drop)]
@@ -24,6 +23,25 @@ pub struct Evaluation<F, P> {
     length: u16,
     dimension: u16,
     points: P,
+}
+
+impl<F: Field, P: Numbers> Evaluation<F, P> {
+    ghost use Rattle.evaluation.specs.Evaluation.{Evaluates};
+    ghost use Rattle.evaluation.specs.Made.{meant, needed};
+
+    // The code of k coefficients at n points; the points need not be n, which makes the code unfit.
+    pub fn new(field: F, n: u16, k: u16, points: P) -> Evaluation<F, P>
+        ensures meaning { meant F.row P.row F.Field P.Numbers result ≡ evaluation (F.Field.arithmetic field) n k (P.Numbers.listed points) }
+        ensures evaluates { Evaluates (F.Field.arithmetic field) n k (P.Numbers.listed points) (meant F.row P.row F.Field P.Numbers result) }
+        ensures need { needed F.row P.row F.Field P.Numbers result ≡ (n + 1) * (n + 3) }
+    {
+        Evaluation {
+            field,
+            length: n,
+            dimension: k,
+            points,
+        }
+    }
 }
 
 impl<F: Field, P: Numbers> Issuer for Evaluation<F, P> {
@@ -37,8 +55,8 @@ impl<F: Field, P: Numbers> Issuer for Evaluation<F, P> {
         proper_sound F' L c.length c.dimension points (fit-proper F'.order c.length c.dimension points fit) };
 
     fn fitness(&self) -> Result<(), FitnessFault> {
-        let n = self.length as usize;
-        check_shape(n, self.dimension as usize, self.points.count())?;
+        let n = usize::from(self.length);
+        check_shape(n, usize::from(self.dimension), self.points.count())?;
         let points = gather(&self.points);
         check_points(self.field.order(), &points[0..n])
     }
@@ -48,21 +66,22 @@ impl<F: Field, P: Numbers> Issuer for Evaluation<F, P> {
     }
 
     fn length(&self) -> usize {
-        self.length as usize
+        usize::from(self.length)
     }
 
     fn dimension(&self) -> usize {
-        self.dimension as usize
+        usize::from(self.dimension)
     }
 
     fn distance(&self) -> usize {
-        (self.length as usize).saturating_sub(self.dimension as usize) + 1
+        (usize::from(self.length)).saturating_sub(usize::from(self.dimension)) + 1
     }
 
     fn issue(&self, message: &[u16], word: &mut [u16]) -> Result<(), CodeFault> {
         self.check_issue(message, word.len())?;
         let points = gather(&self.points);
-        write_word(&self.field, &points[0..word.len()], message, word);
+        word.copy_from_slice(&points[0..word.len()]);
+        evaluate_all(&self.field, message, word);
         Ok(())
     }
 }
@@ -73,7 +92,7 @@ impl<F: Field, P: Numbers> Code for Evaluation<F, P> {
     ghost needs = { λ c fit. needs_few (F.Field.arithmetic c.field).order c.length c.dimension (P.Numbers.listed c.points) fit };
 
     fn need(&self) -> usize {
-        let n = self.length as usize;
+        let n = usize::from(self.length);
         (n + 1) * (n + 3)
     }
 
@@ -87,23 +106,20 @@ impl<F: Field, P: Numbers> Code for Evaluation<F, P> {
         self.check_decode(received, marks, message.len(), scratch.len())?;
         let points = gather(&self.points);
         let need = self.need();
-        decode_in(
-            &self.field,
-            &points[0..received.len()],
-            received,
+        let received = ReceivedWord {
+            points: &points[0..received.len()],
+            numbers: received,
             marks,
-            message,
-            &mut scratch[0..need],
-        )
+        };
+        decode_in(&self.field, &received, message, &mut scratch[0..need])
     }
 }
 
-// The value of the message's polynomial at each point.
-fn write_word<F: Field>(f: &F, points: &[u16], message: &[u16], word: &mut [u16])
-    requires { length word.old ≡ length points.now }
-    ensures { word.new ≡ values (operations F.Field f.now) points.now message.now }
+// Replaces each point by the value of the message's polynomial at it.
+fn evaluate_all<F: Field>(f: &F, message: &[u16], points: &mut [u16])
+    ensures { points.new ≡ values (operations F.Field f.now) points.old message.now }
 {
-    for (j, x) in points.iter().enumerate() {
-        word[j] = evaluate(f, message, *x);
+    for x in points.iter_mut() {
+        *x = evaluate(f, message, *x);
     }
 }

@@ -6,5 +6,6 @@ mod decode;
 mod equations;
 mod evaluation;
 mod points;
+mod received;
 
 pub use evaluation::Evaluation;

@@ -22,13 +22,9 @@ pub fn check_shape(n: usize, k: usize, count: usize) -> Result<(), FitnessFault>
 pub fn check_points(order: u32, points: &[u16]) -> Result<(), FitnessFault>
     ensures { result ≡ point_check order [] 0 points.now }
 {
-    for j in 0..points.len() {
-        let x = points[j];
-        if u32::from(x) >= order {
-            return Err(FitnessFault::Point(j));
-        }
-        if is_among(x, &points[0..j]) {
-            return Err(FitnessFault::Point(j));
+    for (place, x) in points.iter().enumerate() {
+        if u32::from(*x) >= order || is_among(*x, &points[0..place]) {
+            return Err(FitnessFault::Point(place));
         }
     }
     Ok(())

@@ -2,8 +2,8 @@
 use Rattle.std.specs.Prelude.{◌≡◌, ℕ, ◌+◌, ◌<◌, ◌≢◌, List, length, drop, Some, None, Ok, Err, Option, ◌==◌, slice_index}
 use Rattle.fields.specs.Arithmetic.{Arithmetic}
 use Rattle.fields.specs.Numbers.{Below, Zeros}
-use Rattle.fields.specs.Checks.{Check, unless, and_then}
-use Rattle.fields.specs.Checks.{stray}
+use Rattle.fields.specs.Checks.{Check, unless, and_then, unless_found, stray}
+use Rattle.fields.specs.Checks.{Check, unless, and_then, unless_found, stray}
 use Rattle.linear.specs.Checks.{nonzero}
 use Rattle.linear.specs.Polynomials.{value, added, product, Same}
 use Rattle.linear.specs.declared.fault.DivideFault.{DivideFault}

@@ -6,26 +6,26 @@ use Rattle.evaluation.specs.Evaluated.{solved-ok, solved-err, solved-few}
 use Rattle.evaluation.proofs.decode.decode_in.Goals as goal
 
 pub overflow_sub-m : goal.overflow_sub-m
-overflow_sub-m g c = omega (arith, c.count_missing.ensures, length-present c.args.marks.now c.args.points.now c.requires.given.points_long, c.requires.given.points_long)
+overflow_sub-m g c = omega (arith, c.count_missing.ensures, length-present c.args.received.now.marks.now c.args.received.now.points.now c.requires.given.points_long, c.requires.given.points_long)
 
 pub returns-then-m-message : goal.returns-then-m-message
 returns-then-m-message g c =
     let F = g.F.Field.arithmetic c.args.f.now in
-    let ps = c.args.points.now in
-    let ms = c.args.marks.now in
+    let ps = c.args.received.now.points.now in
+    let ms = c.args.received.now.marks.now in
     let old = c.args.message.now in
     let few : length (present ms ps) < length old = omega (arith, c.count_missing.ensures, length-present ms ps c.requires.given.points_long, c.requires.given.points_long, c.if-m-message.true) in
-    solved-few F ps c.args.received.now ms old old c.requires.given.points_long c.requires.given.received_long refl c.requires.fits c.requires.dimension few refl
+    solved-few F ps c.args.received.now.numbers.now ms old old c.requires.given.points_long c.requires.given.received_long refl c.requires.fits c.requires.dimension few refl
 
 pub locate-requires : goal.locate-requires
 locate-requires g c =
-    let n = length c.args.points.now in
+    let n = length c.args.received.now.points.now in
     let m = n - c.count_missing.result in
     let a : m + 1 ≤ n + 1 = omega arith in
     let b : m + 3 ≤ n + 3 = omega arith in
     record {
       given = c.requires.given;
-      count = omega (arith, c.count_missing.ensures, length-present c.args.marks.now c.args.points.now c.requires.given.points_long, c.requires.given.points_long);
+      count = omega (arith, c.count_missing.ensures, length-present c.args.received.now.marks.now c.args.received.now.points.now c.requires.given.points_long, c.requires.given.points_long);
       enough = c.if-m-message.false;
       dimension = c.requires.dimension;
       room = omega (arith, mul-le-mul a b, c.requires.room);
@@ -36,11 +36,11 @@ returns-in_err-locate g c =
     let F = g.F.Field.arithmetic c.args.f.now in
     let p = err_from_is_err_and c.from_residual.result c.from_residual.ensures.1 in
     let h = c.in_err-locate.ensures in
-    rw (p.1, p.2) (solved-err F c.args.points.now c.args.received.now c.args.marks.now c.args.message.now c.locate.new.message
+    rw (p.1, p.2) (solved-err F c.args.received.now.points.now c.args.received.now.numbers.now c.args.received.now.marks.now c.args.message.now c.locate.new.message
     c.requires.given.points_long c.requires.given.received_long c.locate.auto.message c.requires.fits c.requires.dimension c.in_err-locate.field-0.0 h)
 
 pub returns : goal.returns
 returns g c =
     let F = g.F.Field.arithmetic c.args.f.now in
-    solved-ok F c.args.points.now c.args.received.now c.args.marks.now c.args.message.now c.locate.new.message
+    solved-ok F c.args.received.now.points.now c.args.received.now.numbers.now c.args.received.now.marks.now c.args.message.now c.locate.new.message
     c.requires.given.points_long c.requires.given.received_long c.locate.auto.message c.requires.fits c.requires.dimension c.count_wrong.result c.in_ok-locate.ensures c.count_wrong.ensures

@@ -1,4 +1,4 @@
-use Rattle.std.proofs.Common.{◌≡◌, ℕ, ◌-◌, ◌<◌, length, take, drop, sym, refl, ap, ◌∙◌, subst, arith, length-drop, take_all}
+use Rattle.std.proofs.Common.{◌≡◌, ℕ, ◌-◌, ◌<◌, length, map, take, drop, sym, refl, ap, ◌∙◌, subst, arith, length-drop, take_all}
 use Rattle.std.proofs.ByRecursion.{All-take}
 use Rattle.std.proofs.lemmas.Result.{err_from_is_err_and}
 use Rattle.fields.specs.Numbers.{Below, Zeros}
@@ -66,8 +66,8 @@ returns g c =
     let all : take (length Q - k) (drop k Q) ≡ drop k Q = take_all (length Q - k) (drop k Q) (omega (arith, length-drop k Q)) in
     let zq : Zeros (drop k Q) = zeros_passed (drop k Q) (sym (c.in_ok-check_zeros-2.ensures ∙ ap zero_check all)) in
     let width : k - 0 ≡ k = omega arith in
-    let is : c.write_opposites.new.out ≡ scaled F (F.opposite 1) (take k Q) =
-    c.write_opposites.ensures ∙ opposites F L (take (k - 0) Q) (All-take (λ x. x < F.order) (k - 0) Q d.quotient_below) ∙ ap (λ (n : ℕ). scaled F (F.opposite 1) (take n Q)) width in (
+    let is : c.negate_all.new.numbers ≡ scaled F (F.opposite 1) (take k Q) =
+    c.negate_all.ensures ∙ ap (map F.opposite) c.copy_from_slice.ensures.after ∙ opposites F L (take (k - 0) Q) (All-take (λ x. x < F.order) (k - 0) Q d.quotient_below) ∙ ap (λ (n : ℕ). scaled F (F.opposite 1) (take n Q)) width in (
       subst (Below F.order) (sym is) (Values.scaled-below F L (F.opposite 1) (take k Q)),
       subst (Divides F c.args.q0.now c.args.q1.now) (sym is) (divides_from F L c.args.q0.now c.args.q1.now Q c.divide.new.dividend k c.requires.dividend d zr zq),
     )

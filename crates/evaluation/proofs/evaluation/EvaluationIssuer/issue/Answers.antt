@@ -23,5 +23,5 @@ returns g c =
     ap (λ (i : ℕ). take i c.gather-points.result) whole ∙ ap (take n) c.gather-points.ensures ∙ front-filled 128 n ps proper.counted proper.few in
     record {
       answer = ok;
-      buffer = c.write_word.ensures ∙ ap (λ (xs : List ℕ). word (total F) xs c.args.message.now) is;
+      buffer = c.evaluate_all.ensures ∙ ap (λ (xs : List ℕ). word (total F) xs c.args.message.now) (c.copy_from_slice.ensures.after ∙ is);
     }
