@@ -1,4 +1,5 @@
 // A layer over any code: each number of a word is multiplied by a multiplier of its own.
+ghost use Rattle.std.specs.Prelude.{◌≡◌};
 ghost use Rattle.layers.specs.Scaled.{scaled};
 ghost use Rattle.layers.specs.ScaledSound.{lawful, scaling, scaled-sound};
 
@@ -8,14 +9,31 @@ use codes::interface::{Code, Issuer};
 use codes::numbers::Numbers;
 use fields::field::Field;
 
-mod make;
-
 // The code below, with a field and a multiplier for each place.
 #[derive(Drop)]
 pub struct Scaled<F, M, C> {
     field: F,
     multipliers: M,
     code: C,
+}
+
+impl<F: Field, M: Numbers, C: Code> Scaled<F, M, C> {
+    ghost use Rattle.layers.specs.Made.{Scales, scaled_meant, scaled_need};
+
+    // The code whose words are those of the code below, times the multipliers.
+    pub fn new(field: F, multipliers: M, code: C) -> Scaled<F, M, C>
+        ensures meaning { scaled_meant F.row M.row C.row F.Field M.Numbers C.Issuer result
+            ≡ scaled (F.Field.arithmetic field) (M.Numbers.listed multipliers) (C.Issuer.meaning code) }
+        ensures scales { Scales (F.Field.arithmetic field) (M.Numbers.listed multipliers) (C.Issuer.meaning code)
+            (scaled_meant F.row M.row C.row F.Field M.Numbers C.Issuer result) }
+        ensures need { scaled_need F.row M.row C.row F.Field M.Numbers C.Issuer C.Code.own result ≡ C.Code.need code }
+    {
+        Scaled {
+            field,
+            multipliers,
+            code,
+        }
+    }
 }
 
 impl<F: Field, M: Numbers, C: Issuer> Issuer for Scaled<F, M, C> {

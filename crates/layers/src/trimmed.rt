@@ -9,13 +9,24 @@ use codes::fault::{CodeFault, FitnessFault};
 use codes::interface::{Code, Issuer};
 use codes::numbers::{blank, gather};
 
-mod make;
-
 // The code below, for messages that are `by` numbers shorter.
 #[derive(Clone, Copy, Drop)]
 pub struct Trimmed<C> {
     code: C,
     by: usize,
+}
+
+impl<C: Code> Trimmed<C> {
+    ghost use Rattle.layers.specs.Made.{Trims, trimmed_meant, trimmed_need};
+
+    // The code whose messages are those of the code below without their last `by` numbers, which are 0.
+    pub fn new(code: C, by: usize) -> Trimmed<C>
+        ensures meaning { trimmed_meant C.row C.Issuer result ≡ trimmed by (C.Issuer.meaning code) }
+        ensures trims { Trims by (C.Issuer.meaning code) (trimmed_meant C.row C.Issuer result) }
+        ensures need { trimmed_need C.row C.Issuer C.Code.own result ≡ C.Code.need code }
+    {
+        Trimmed { code, by }
+    }
 }
 
 impl<C: Issuer> Issuer for Trimmed<C> {

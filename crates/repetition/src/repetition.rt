@@ -1,4 +1,5 @@
 // The repetition code as an issuer and as a code.
+ghost use Rattle.std.specs.Prelude.{◌≡◌};
 ghost use Rattle.repetition.specs.Repeats.{repetition};
 ghost use Rattle.repetition.specs.Sound.{repetition-sound, needs_none};
 
@@ -6,13 +7,24 @@ use crate::majority::majority;
 use codes::fault::{CodeFault, FitnessFault};
 use codes::interface::{Code, Issuer};
 
-mod make;
-
 // Messages have one number below the order, and words have it as often as they are long.
 #[derive(Clone, Copy)]
 pub struct Repetition {
     order: u32,
     length: usize,
+}
+
+impl Repetition {
+    ghost use Rattle.repetition.specs.Made.{Repeats, meant, needed};
+
+    // The code whose words are `length` times one number below the order.
+    pub fn new(order: u32, length: usize) -> Repetition
+        ensures meaning { meant result ≡ repetition order length }
+        ensures repeats { Repeats order length (meant result) }
+        ensures need { needed result ≡ 0 }
+    {
+        Repetition { order, length }
+    }
 }
 
 impl Issuer for Repetition {
