@@ -3,4 +3,3 @@ pub mod Words
 pub mod Checks
 pub mod Meaning
 pub mod Lists
-pub mod Made

@@ -46,11 +46,9 @@ pub struct Upto {
 }
 
 impl Upto {
-    ghost use Rattle.codes.specs.Made.{listed_by};
-
     // The numbers 0 to `count` - 1.
     pub fn new(count: u16) -> Upto
-        ensures { listed_by result ≡ counting 0 count }
+        ensures { ⟦<Upto as Numbers>⟧.listed result ≡ counting 0 count }
     {
         Upto { count }
     }

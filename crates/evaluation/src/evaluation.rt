@@ -27,13 +27,12 @@ pub struct Evaluation<F, P> {
 
 impl<F: Field, P: Numbers> Evaluation<F, P> {
     ghost use Rattle.evaluation.specs.Evaluation.{Evaluates};
-    ghost use Rattle.evaluation.specs.Made.{meant, needed};
 
     // The code of k coefficients at n points; the points need not be n, which makes the code unfit.
     pub fn new(field: F, n: u16, k: u16, points: P) -> Evaluation<F, P>
-        ensures meaning { meant F.row P.row F.Field P.Numbers result ≡ evaluation (F.Field.arithmetic field) n k (P.Numbers.listed points) }
-        ensures evaluates { Evaluates (F.Field.arithmetic field) n k (P.Numbers.listed points) (meant F.row P.row F.Field P.Numbers result) }
-        ensures need { needed F.row P.row F.Field P.Numbers result ≡ (n + 1) * (n + 3) }
+        ensures meaning { ⟦<Evaluation<F, P> as Issuer>⟧.meaning result ≡ evaluation (F.Field.arithmetic field) n k (P.Numbers.listed points) }
+        ensures evaluates { Evaluates (F.Field.arithmetic field) n k (P.Numbers.listed points) (⟦<Evaluation<F, P> as Issuer>⟧.meaning result) }
+        ensures need { ⟦<Evaluation<F, P> as Code>⟧.need result ≡ (n + 1) * (n + 3) }
     {
         Evaluation {
             field,

@@ -13,11 +13,9 @@ const POLYNOMIAL: u16 = 285;
 pub struct Gf256(());
 
 impl Gf256 {
-    ghost use Rattle.fields.specs.Made.{arithmetic_of};
-
     // The field of the polynomials modulo 285.
     pub fn new() -> Gf256
-        ensures { arithmetic_of result ≡ bytes }
+        ensures { ⟦<Gf256 as Field>⟧.arithmetic result ≡ bytes }
     {
         Gf256(())
     }

@@ -1,36 +1,8 @@
--- What the layers mean and need, by their own `Issuer` and `Code`, and this in plain words.
+-- What the layers mean, in plain words.
 use Rattle.std.specs.Prelude.{◌≡◌, ℕ, ◌-◌, ◌<◌, ◌↔◌, List, ◌++◌, length, replicate, Ok, slice_index}
-use Rattle.std.specs.Borrow.{RattleType}
-use mir.Syntax.{given}
 use Rattle.fields.specs.Arithmetic.{Arithmetic}
-use Rattle.fields.specs.declared.field.Field as field
 use Rattle.codes.specs.Meaning.{Meaning, Message, Sound}
-use Rattle.codes.specs.declared.interface.Code as code
-use Rattle.codes.specs.declared.interface.Issuer as issuer
-use Rattle.codes.specs.declared.numbers.Numbers as numbers
 use Rattle.layers.specs.Scaled.{Units}
-use Rattle.layers.specs.contracts.scaled.ScaledCode.TheImpl as scaled-code
-use Rattle.layers.specs.contracts.scaled.ScaledIssuer.TheImpl as scaled-issuer
-use Rattle.layers.specs.contracts.trimmed.TrimmedCode.TheImpl as trimmed-code
-use Rattle.layers.specs.contracts.trimmed.TrimmedIssuer.TheImpl as trimmed-issuer
-use Rattle.layers.specs.declared.scaled.Scaled.{Scaled}
-use Rattle.layers.specs.declared.trimmed.Trimmed.{Trimmed}
-
--- the meaning that a trimmed code's issuing interface says, over any code
-abbrev pub trimmed_meant : (C : RattleType) → issuer.Ghosts C.Denot → Trimmed C.Denot → Meaning
-trimmed_meant C i c = (trimmed-issuer.ghosts C i (given 0)).meaning c
-
--- the scratch that its code interface asks for
-abbrev pub trimmed_need : (C : RattleType) → issuer.Ghosts C.Denot → code.Ghosts C.Denot → Trimmed C.Denot → ℕ
-trimmed_need C i d c = (trimmed-code.ghosts C d (given 0) i (given 1)).need c
-
--- the meaning that a scaled code's issuing interface says, over any field, list of multipliers and code
-abbrev pub scaled_meant : (F M C : RattleType) → field.Ghosts F.Denot → numbers.Ghosts M.Denot → issuer.Ghosts C.Denot → Scaled F.Denot M.Denot C.Denot → Meaning
-scaled_meant F M C f m i c = (scaled-issuer.ghosts F M C f (given 0) m (given 1) i (given 2)).meaning c
-
--- the scratch that its code interface asks for
-abbrev pub scaled_need : (F M C : RattleType) → field.Ghosts F.Denot → numbers.Ghosts M.Denot → issuer.Ghosts C.Denot → code.Ghosts C.Denot → Scaled F.Denot M.Denot C.Denot → ℕ
-scaled_need F M C f m i d c = (scaled-code.ghosts F M C f (given 0) m (given 1) d (given 2) i (given 3)).need c
 
 -- N is the code B, trimmed by z
 pub record Trims (z : ℕ) (B N : Meaning) : Type 0 where

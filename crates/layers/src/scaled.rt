@@ -18,15 +18,15 @@ pub struct Scaled<F, M, C> {
 }
 
 impl<F: Field, M: Numbers, C: Code> Scaled<F, M, C> {
-    ghost use Rattle.layers.specs.Made.{Scales, scaled_meant, scaled_need};
+    ghost use Rattle.layers.specs.Made.{Scales};
 
     // The code whose words are those of the code below, times the multipliers.
     pub fn new(field: F, multipliers: M, code: C) -> Scaled<F, M, C>
-        ensures meaning { scaled_meant F.row M.row C.row F.Field M.Numbers C.Issuer result
+        ensures meaning { ⟦<Scaled<F, M, C> as Issuer>⟧.meaning result
             ≡ scaled (F.Field.arithmetic field) (M.Numbers.listed multipliers) (C.Issuer.meaning code) }
         ensures scales { Scales (F.Field.arithmetic field) (M.Numbers.listed multipliers) (C.Issuer.meaning code)
-            (scaled_meant F.row M.row C.row F.Field M.Numbers C.Issuer result) }
-        ensures need { scaled_need F.row M.row C.row F.Field M.Numbers C.Issuer C.Code.own result ≡ C.Code.need code }
+            (⟦<Scaled<F, M, C> as Issuer>⟧.meaning result) }
+        ensures need { ⟦<Scaled<F, M, C> as Code>⟧.need result ≡ C.Code.need code }
     {
         Scaled {
             field,

@@ -11,6 +11,7 @@ use fields::field::Field;
 pub fn check_multipliers<M: Numbers>(order: u32, multipliers: &M) -> Result<(), FitnessFault>
     ensures { result ≡ multiplier_check order 0 (M.Numbers.listed multipliers.now) }
 {
+    // A list of multipliers is asked for each by its place.
     for i in 0..multipliers.count() {
         let x = multipliers.at(i);
         if x == 0 || u32::from(x) >= order {

@@ -17,13 +17,13 @@ pub struct Trimmed<C> {
 }
 
 impl<C: Code> Trimmed<C> {
-    ghost use Rattle.layers.specs.Made.{Trims, trimmed_meant, trimmed_need};
+    ghost use Rattle.layers.specs.Made.{Trims};
 
     // The code whose messages are those of the code below without their last `by` numbers, which are 0.
     pub fn new(code: C, by: usize) -> Trimmed<C>
-        ensures meaning { trimmed_meant C.row C.Issuer result ≡ trimmed by (C.Issuer.meaning code) }
-        ensures trims { Trims by (C.Issuer.meaning code) (trimmed_meant C.row C.Issuer result) }
-        ensures need { trimmed_need C.row C.Issuer C.Code.own result ≡ C.Code.need code }
+        ensures meaning { ⟦<Trimmed<C> as Issuer>⟧.meaning result ≡ trimmed by (C.Issuer.meaning code) }
+        ensures trims { Trims by (C.Issuer.meaning code) (⟦<Trimmed<C> as Issuer>⟧.meaning result) }
+        ensures need { ⟦<Trimmed<C> as Code>⟧.need result ≡ C.Code.need code }
     {
         Trimmed { code, by }
     }

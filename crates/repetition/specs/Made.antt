@@ -1,17 +1,6 @@
--- What a repetition code means and needs, by its own `Issuer` and `Code`, and this in plain words.
+-- What a repetition code means, in plain words.
 use Rattle.std.specs.Prelude.{◌≡◌, ℕ, ◌≤◌, ◌↔◌, List, replicate, Ok, slice_index}
 use Rattle.codes.specs.Meaning.{Meaning, Sound}
-use Rattle.repetition.specs.contracts.repetition.RepetitionCode.TheImpl as decoder
-use Rattle.repetition.specs.contracts.repetition.RepetitionIssuer.TheImpl as issuer
-use Rattle.repetition.specs.declared.repetition.Repetition.{Repetition}
-
--- the meaning that the code's issuing interface says
-abbrev pub meant : Repetition → Meaning
-meant c = (issuer.ghosts).meaning c
-
--- the scratch that its code interface asks for
-abbrev pub needed : Repetition → ℕ
-needed c = (decoder.ghosts).need c
 
 -- a code of length n and order q whose words repeat the message's one number
 pub record Repeats (q n : ℕ) (M : Meaning) : Type 0 where

@@ -15,13 +15,13 @@ pub struct Repetition {
 }
 
 impl Repetition {
-    ghost use Rattle.repetition.specs.Made.{Repeats, meant, needed};
+    ghost use Rattle.repetition.specs.Made.{Repeats};
 
     // The code whose words are `length` times one number below the order.
     pub fn new(order: u32, length: usize) -> Repetition
-        ensures meaning { meant result ≡ repetition order length }
-        ensures repeats { Repeats order length (meant result) }
-        ensures need { needed result ≡ 0 }
+        ensures meaning { ⟦<Repetition as Issuer>⟧.meaning result ≡ repetition order length }
+        ensures repeats { Repeats order length (⟦<Repetition as Issuer>⟧.meaning result) }
+        ensures need { ⟦<Repetition as Code>⟧.need result ≡ 0 }
     {
         Repetition { order, length }
     }
