@@ -8,8 +8,8 @@ use Rattle.linear.specs.Operations.{operations}
 use Rattle.linear.proofs.Lawful.{lawful}
 use Rattle.evaluation.specs.Decoding.{present, Equations}
 use Rattle.evaluation.specs.Counted.{length-present}
-use Rattle.evaluation.proofs.Located.{Sizes, located, meets_solved}
-use Rattle.evaluation.proofs.Locator.{all_parts, equation-below, both_zero}
+use Rattle.evaluation.proofs.Located.{Sizes, located, parts_of}
+use Rattle.evaluation.proofs.Locator.{equation-below}
 use Rattle.evaluation.specs.Places.{present-all, present-distinct}
 use Rattle.evaluation.proofs.Solving.{solve_passes, rows_below}
 use Rattle.evaluation.proofs.decode.locate.Goals as goal
@@ -85,12 +85,9 @@ divide_out-requires g c =
     let s-long : length s + (m - t) ≡ length v = c.split_at_mut-q0.ensures.back_len in
     let v-long : length v ≡ w = solved.long in
     let rest : length s ≡ w - (m - t) = omega arith in
-    let parts = all_parts (λ x. x < F.order) p s (subst (Below F.order) split solved.below) in
-    let meets = meets_solved F L m w (m - t) xs ys written tail p s v count (sym long) rows solved split p-long rest in
     let distinct = present-distinct ms ps given.distinct in
     let below = present-all (λ x. x < F.order) ms ps given.below in
-    let nonzero : Zeros s → ⊥ = λ z. solved.nonzero (subst Zeros (sym split)
-    (All-append (λ x. x ≡ 0) p s (both_zero F L p s xs ys parts.0 distinct below same meets (omega (arith, p-long, count)) z) z)) in
+    let parts = parts_of F L m w (m - t) xs ys written tail p s v count (sym long) rows solved split p-long rest (omega arith) distinct below same in
     let room = c.split_at_mut-solution.result.1.now in
     let back₁ : length c.split_at_mut-rows.result.1.now + w * w ≡ length c.args.room.now = c.split_at_mut-rows.ensures.back_len in
     let back₂ : length room + w ≡ length c.split_at_mut-rows.result.1.now = c.split_at_mut-solution.ensures.back_len in
@@ -100,9 +97,9 @@ divide_out-requires g c =
     let whole : m - t - 0 ≡ m - t = omega arith in
     let fits : m - t ≤ length room = omega (arith, back₁, back₂, all, c.requires.room) in
     record {
-      dividend = parts.0;
-      divisor = parts.1;
-      nonzero = nonzero;
+      dividend = parts.first;
+      divisor = parts.second;
+      nonzero = parts.nonzero;
       room = length-take-le (m - t - 0) room (omega (arith, fits)) ∙ whole ∙ sym p-long;
       fits = omega (arith, p-long, enough);
     }
@@ -143,12 +140,9 @@ returns g c =
     let s-long : length s + (m - t) ≡ length v = c.split_at_mut-q0.ensures.back_len in
     let v-long : length v ≡ w = solved.long in
     let rest : length s ≡ w - (m - t) = omega arith in
-    let parts = all_parts (λ x. x < F.order) p s (subst (Below F.order) split solved.below) in
-    let meets = meets_solved F L m w (m - t) xs ys written tail p s v count (sym long) rows solved split p-long rest in
     let distinct = present-distinct ms ps given.distinct in
     let below = present-all (λ x. x < F.order) ms ps given.below in
-    let nonzero : Zeros s → ⊥ = λ z. solved.nonzero (subst Zeros (sym split)
-    (All-append (λ x. x ≡ 0) p s (both_zero F L p s xs ys parts.0 distinct below same meets (omega (arith, p-long, count)) z) z)) in
+    let parts = parts_of F L m w (m - t) xs ys written tail p s v count (sym long) rows solved split p-long rest (omega arith) distinct below same in
     let enough : k ≤ m = c.requires.enough in
     let sizes : Sizes p s xs k t = record {
       locator = omega arith;
@@ -156,4 +150,4 @@ returns g c =
       half = omega arith;
       floor = omega arith;
     } in
-    located F L p s xs ys c.args.message.now c.divide_out.new.message t c.divide_out.result sizes parts.0 parts.1 nonzero distinct below given.numbers same meets c.divide_out.auto.message c.divide_out.ensures
+    located F L p s xs ys c.args.message.now c.divide_out.new.message t c.divide_out.result sizes parts.first parts.second parts.nonzero distinct below given.numbers same parts.meets c.divide_out.auto.message c.divide_out.ensures
