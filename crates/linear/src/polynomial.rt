@@ -19,10 +19,9 @@ pub fn evaluate<F: Field>(f: &F, p: &[u16], x: u16) -> u16
 }
 
 // The theorems on polynomials over every field: the value at 0, the bound on roots, and how far apart two words are.
-pub fn polynomial_laws() -> u8
+pub fn polynomial_laws()
     ensures constant { ConstantAtZero }
     ensures roots { RootBound }
     ensures apart { WordsApart }
 {
-    0
 }
