@@ -1,5 +1,6 @@
--- The number, the place and the row by which each fault of a collector is reported; place and row are 0 where the fault has none.
-use Rattle.std.specs.Prelude.{ℕ}
+-- The number, the place and the row by which each fault of a collector is reported; place and row are 0 where the fault has none. What is printed of each.
+use Rattle.std.specs.Prelude.{ℕ, List, ◌++◌, codes}
+use Rattle.std.specs.Fmt.{decimal}
 use Rattle.codes.specs.Faults as code
 use Rattle.carrier.specs.declared.fault.CollectorFault.{CollectorFault}
 use Rattle.carrier.specs.declared.fault.CollectorFault.TheVariants.{Code, Depth, Place, StripLength, Taken, Vacant, SheetLength}
@@ -32,3 +33,7 @@ row StripLength = 0
 row Taken = 0
 row Vacant = 0
 row SheetLength = 0
+
+-- what is printed of a fault
+abbrev pub text : CollectorFault → List ℕ
+text f = codes "refused " ++ decimal (number f) ++ codes " place " ++ decimal (place f) ++ codes " row " ++ decimal (row f)

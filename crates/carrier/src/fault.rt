@@ -1,10 +1,11 @@
 // Why a collector declines a call.
-ghost use Rattle.std.specs.Prelude.{◌≡◌};
+ghost use Rattle.std.specs.Prelude.{◌≡◌, Some};
 ghost use Rattle.codes.specs.declared.fault.CodeFault.TheVariants.{Unfit};
-ghost use Rattle.carrier.specs.Faults.{number, place, row};
+ghost use Rattle.carrier.specs.Faults.{number, place, row, text};
 ghost use Rattle.carrier.specs.declared.fault.CollectorFault.TheVariants.{Code};
 
 use codes::fault::{CodeFault, FitnessFault};
+use std::fmt;
 
 #[derive(Clone, Copy, PartialEq, Debug)]
 pub enum CollectorFault {
@@ -65,6 +66,15 @@ impl CollectorFault {
             CollectorFault::Code { fault: _, row } => row,
             _ => 0,
         }
+    }
+}
+
+// Prints the number, the place and the row.
+impl fmt::Display for CollectorFault {
+    ghost output = { λ f. Some (text f) };
+
+    fn fmt<W: fmt::Write>(&self, f: &mut fmt::Formatter<W>) -> fmt::Result {
+        write!(f, "refused {} place {} row {}", self.number(), self.place(), self.row())
     }
 }
 

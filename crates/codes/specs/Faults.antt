@@ -1,5 +1,6 @@
--- The number and the place by which each fault is reported; the place is 0 where the fault has none.
-use Rattle.std.specs.Prelude.{ℕ}
+-- The number and the place by which each fault is reported; the place is 0 where the fault has none. What is printed of each.
+use Rattle.std.specs.Prelude.{ℕ, List, ◌++◌, codes}
+use Rattle.std.specs.Fmt.{decimal}
 use Rattle.codes.specs.declared.fault.FitnessFault.{FitnessFault}
 use Rattle.codes.specs.declared.fault.FitnessFault.TheVariants.{Length, Dimension, Point, Order, Trim, FieldSize, Multiplier}
 use Rattle.codes.specs.declared.fault.CodeFault.{CodeFault}
@@ -42,3 +43,7 @@ place WordLength = 0
 place (Number p) = p
 place Scratch = 0
 place Reach = 0
+
+-- what is printed of a call's fault, which has no row
+abbrev pub text : CodeFault → List ℕ
+text f = codes "refused " ++ decimal (number f) ++ codes " place " ++ decimal (place f) ++ codes " row 0"

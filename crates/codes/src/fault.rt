@@ -1,7 +1,9 @@
 // Why a code declines: it is unfit, or a call's arguments are refused.
-ghost use Rattle.std.specs.Prelude.{◌≡◌};
-ghost use Rattle.codes.specs.Faults.{number, place, unfit_number, unfit_place};
+ghost use Rattle.std.specs.Prelude.{◌≡◌, Some};
+ghost use Rattle.codes.specs.Faults.{number, place, text, unfit_number, unfit_place};
 ghost use Rattle.codes.specs.declared.fault.CodeFault.TheVariants.{Unfit};
+
+use std::fmt;
 
 // Why a code is unfit.
 #[derive(Clone, Copy, PartialEq, Eq, Debug)]
@@ -90,6 +92,24 @@ impl CodeFault {
             CodeFault::Number(place) => place,
             _ => 0,
         }
+    }
+}
+
+// Prints it as the fault of a call that it refuses.
+impl fmt::Display for FitnessFault {
+    ghost output = { λ f. Some (text (Unfit f)) };
+
+    fn fmt<W: fmt::Write>(&self, f: &mut fmt::Formatter<W>) -> fmt::Result {
+        fmt::Display::fmt(&CodeFault::from(*self), f)
+    }
+}
+
+// Prints the number and the place, and 0 for the row.
+impl fmt::Display for CodeFault {
+    ghost output = { λ f. Some (text f) };
+
+    fn fmt<W: fmt::Write>(&self, f: &mut fmt::Formatter<W>) -> fmt::Result {
+        write!(f, "refused {} place {} row 0", self.number(), self.place())
     }
 }
 

@@ -1,5 +1,6 @@
 pub mod Checks
 pub mod Numbers
+pub mod Any
 pub mod Arithmetic
 pub mod Laws
 pub mod Primes

@@ -1,6 +1,8 @@
 // Why a field is not made.
-ghost use Rattle.std.specs.Prelude.{◌≡◌};
-ghost use Rattle.fields.specs.Faults.{number};
+ghost use Rattle.std.specs.Prelude.{◌≡◌, Some};
+ghost use Rattle.fields.specs.Faults.{number, text};
+
+use std::fmt;
 
 #[derive(Clone, Copy, PartialEq, Eq, Debug)]
 pub enum FieldFault {
@@ -16,5 +18,14 @@ impl FieldFault {
         match self {
             FieldFault::Unlisted => 1,
         }
+    }
+}
+
+// Prints the number, and 0 for the place and the row.
+impl fmt::Display for FieldFault {
+    ghost output = { λ f. Some (text f) };
+
+    fn fmt<W: fmt::Write>(&self, f: &mut fmt::Formatter<W>) -> fmt::Result {
+        write!(f, "refused {} place 0 row 0", self.number())
     }
 }

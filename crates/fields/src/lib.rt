@@ -2,6 +2,7 @@
 
 #![tactic(auto)]
 
+pub mod any;
 pub mod fault;
 pub mod field;
 pub mod gf256;

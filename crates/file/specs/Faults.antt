@@ -1,5 +1,6 @@
--- The number, the place and the row by which each fault of a file is reported; place and row are 0 where the fault has none.
-use Rattle.std.specs.Prelude.{ℕ}
+-- The number, the place and the row by which each fault of a file is reported; place and row are 0 where the fault has none. What is printed of each.
+use Rattle.std.specs.Prelude.{ℕ, List, ◌++◌, codes}
+use Rattle.std.specs.Fmt.{decimal}
 use Rattle.carrier.specs.Faults as collector
 use Rattle.file.specs.declared.fault.FileFault.{FileFault}
 use Rattle.file.specs.declared.fault.FileFault.TheVariants.{TooShort, Field, BackCount, Collector, Output}
@@ -26,3 +27,7 @@ row Field = 0
 row BackCount = 0
 row (Collector fault) = collector.row fault
 row Output = 0
+
+-- what is printed of a fault
+abbrev pub text : FileFault → List ℕ
+text f = codes "refused " ++ decimal (number f) ++ codes " place " ++ decimal (place f) ++ codes " row " ++ decimal (row f)

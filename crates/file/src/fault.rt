@@ -1,9 +1,10 @@
 // Why a file is declined.
-ghost use Rattle.std.specs.Prelude.{◌≡◌};
-ghost use Rattle.file.specs.Faults.{number, place, row};
+ghost use Rattle.std.specs.Prelude.{◌≡◌, Some};
+ghost use Rattle.file.specs.Faults.{number, place, row, text};
 ghost use Rattle.file.specs.declared.fault.FileFault.TheVariants.{Collector};
 
 use carrier::fault::CollectorFault;
+use std::fmt;
 
 #[derive(Clone, Copy, PartialEq, Debug)]
 pub enum FileFault {
@@ -51,6 +52,15 @@ impl FileFault {
             FileFault::Collector(fault) => fault.row(),
             _ => 0,
         }
+    }
+}
+
+// Prints the number, the place and the row.
+impl fmt::Display for FileFault {
+    ghost output = { λ f. Some (text f) };
+
+    fn fmt<W: fmt::Write>(&self, f: &mut fmt::Formatter<W>) -> fmt::Result {
+        write!(f, "refused {} place {} row {}", self.number(), self.place(), self.row())
     }
 }
 
