@@ -3,7 +3,7 @@ use Rattle.std.proofs.lemmas.List.{get_or-set_same, get_or-set_other, ext_get_or
 use Rattle.file.specs.Form.{numbers_in}
 use Rattle.file.proofs.Forms.{length-numbers_in}
 use Rattle.file.proofs.Delivering.{get_or-numbers_in}
-use Rattle.file.proofs.reader.strips.widen.Goals as goal
+use Rattle.file.proofs.reader.widen.Goals as goal
 
 pub loop-i-preserved : goal.loop-i-preserved
 loop-i-preserved c =

@@ -1,7 +1,7 @@
 use Rattle.std.proofs.Common.{◌≡◌, ◌+◌, ◌≤◌, length, take, drop}
 use Rattle.carrier.specs.Records.{meaning_of, records_of}
 use Rattle.file.specs.Deliveries.{declined, Brings}
-use Rattle.file.proofs.source.deliver.deliver_all.Given as goal
+use Rattle.file.proofs.source.deliver_all.Given as goal
 
 abbrev pub invariant-loop-i : goal.invariant-loop-i
 invariant-loop-i g l =

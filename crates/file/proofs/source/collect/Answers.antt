@@ -10,7 +10,7 @@ use Rattle.carrier.specs.declared.fault.CollectorFault.{CollectorFault}
 use Rattle.file.specs.declared.source.Outcome.{Outcome}
 use Rattle.file.specs.Deliveries.{brought, declined, Collected}
 use Rattle.file.proofs.Delivering.{declined-fresh}
-use Rattle.file.proofs.source.deliver.collect.Goals as goal
+use Rattle.file.proofs.source.collect.Goals as goal
 
 -- what a read does by its checks: the refusal, and the scratch past the need
 done_refused : (chk : Check CollectorFault) (M : Meaning) (n D : ℕ) (b : Book) (old new scr scr' : List ℕ) (r : Result ℕ CollectorFault) (f : CollectorFault) → chk ≡ Err f → Done chk M n D b old new scr scr' r → (r ≡ Err f) × (new ≡ old) × (scr' ≡ scr)
