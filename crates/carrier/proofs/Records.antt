@@ -23,7 +23,7 @@ record_at n D strips place a b =
     let l : place < length (take n strips) = simp length-take (omega arith) in
     get_or-map (held D) (take n strips) place None None l ∙ ap (held D) (get_or-take n strips place None a)
 
-filled-held : (D : ℕ) (o : Option (List ℕ)) → filled (held D o) ≡ filled o
+pub filled-held : (D : ℕ) (o : Option (List ℕ)) → filled (held D o) ≡ filled o
 filled-held D None = refl
 filled-held D (Some s) = refl
 

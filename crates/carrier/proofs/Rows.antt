@@ -1,7 +1,9 @@
 -- What the code's decode says of one row of the records, and of all.
 use Rattle.std.proofs.Common.{◌≡◌, ℕ, zero, suc, ◌+◌, ◌-◌, ◌*◌, ◌<◌, ◌≤◌, cond, eqb, ◌⊎◌, List, [], ◌∷◌, map, length, take, drop, Some, None, Ok, Err, Option, Result, sym, refl, ap, ◌∙◌, subst, inl, inr, mul-le-mul_right, suc-mul, add-one, arith, length-take, get_or-take, below_more}
 use borrow.Rule.Slice.PartMut.{put_mid}
-use Rattle.std.proofs.lemmas.List.{length-map}
+use Rattle.std.specs.Result.{MatchResult, IsErrAnd}
+use Rattle.std.proofs.lemmas.List.{length-map, take-map}
+use Rattle.std.proofs.lemmas.Result.{err_from_is_err_and}
 use Rattle.std.proofs.lemmas.Slice.{between-put_mid, between_is, take-put_mid_below}
 use Rattle.std.proofs.lemmas.Bool.Decides.{nat_tests}
 use Rattle.fields.specs.Checks.{Check}
@@ -10,9 +12,10 @@ use Rattle.codes.specs.Meaning.{Meaning, Reached, decode_check, Decided}
 use Rattle.codes.specs.Words.{wrong}
 use Rattle.codes.specs.declared.fault.CodeFault.{CodeFault}
 use Rattle.codes.specs.declared.fault.CodeFault.TheVariants.{Reach}
+use Rattle.carrier.specs.declared.fault.RowFault.{RowFault}
 use Rattle.carrier.specs.Book.{Book}
 use Rattle.carrier.specs.Records.{records, held}
-use Rattle.carrier.specs.Sheets.{entry, mark, received, marks, row, InReach, wrongs}
+use Rattle.carrier.specs.Sheets.{entry, mark, received, marks, row, InReach, Row, wrongs}
 
 entry-held : (i D : ℕ) (o : Option (List ℕ)) → i < D → entry i (held D o) ≡ entry i o
 entry-held i D None h = refl
@@ -51,16 +54,26 @@ row_at (Err g) m need rs ms old new scr scr' (Err f) i h =
 
 -- one row, in terms of the records
 pub column_row : (m : Meaning) (need D : ℕ) (strips : List (Option (List ℕ))) (i wide : ℕ) (rs ms : List ℕ) (room lent : ℕ) (old new scr scr' : List ℕ) (r : Result ℕ CodeFault) →
-    m.fitness ≡ Ok tt → i < D → wide ≡ m.long → length rs ≡ m.long → length ms ≡ m.long → room ≡ m.dimension → need ≤ lent → rs ≡ received i (take wide strips) → ms ≡ marks (take wide strips) →
+    m.fitness ≡ Ok tt → i < D → wide ≡ m.long → length rs ≡ m.long → length ms ≡ m.long → room ≡ m.dimension → need ≤ lent → rs ≡ take wide (received i strips) → ms ≡ take wide (marks strips) →
     Decided (decode_check m need rs ms room lent) m need rs ms old new scr scr' r →
     OneRow m (received i (records m.long D strips)) (marks (records m.long D strips)) new r × (drop need scr' ≡ drop need scr)
 column_row m need D strips i wide rs ms room lent old new scr scr' r e in' w a b c l x y h =
     let n = m.long in
-    let x' : rs ≡ received i (records n D strips) = x ∙ ap (λ (t : ℕ). received i (take t strips)) w ∙ sym (received-held i D (take n strips) in') in
-    let y' : ms ≡ marks (records n D strips) = y ∙ ap (λ (t : ℕ). marks (take t strips)) w ∙ sym (marks-held D (take n strips)) in
+    let x' : rs ≡ received i (records n D strips) = x ∙ take-map (entry i) wide strips ∙ ap (λ (t : ℕ). received i (take t strips)) w ∙ sym (received-held i D (take n strips) in') in
+    let y' : ms ≡ marks (records n D strips) = y ∙ take-map mark wide strips ∙ ap (λ (t : ℕ). marks (take t strips)) w ∙ sym (marks-held D (take n strips)) in
     let p = row_at (unmarked_check m.order 0 rs ms) m need rs ms old new scr scr' r refl
     (subst (λ (x : Check CodeFault). Decided x m need rs ms old new scr scr' r) (checks_left m need rs ms room lent e a b c l) h) in
     (subst (λ (t : List ℕ). OneRow m (received i (records n D strips)) t new r) y' (subst (λ (t : List ℕ). OneRow m t ms new r) x' p.0), p.1)
+
+-- what one row gives, with the row told beside the code's fault
+pub row_told : (m : Meaning) (b : Book) (i : ℕ) (new : List ℕ) (r : Result ℕ CodeFault) (told : Result ℕ RowFault) {Q : CodeFault → RowFault → Type 0} →
+    ((e : CodeFault) (f : RowFault) → Q e f → f ≡ record { fault = e; row = i }) → MatchResult r (λ x. told ≡ Ok x) (λ e. IsErrAnd told (Q e)) →
+    OneRow m (received i b) (marks b) new r → Row m b i new told
+unfolding OneRow
+row_told m b i new (Ok e) told named is one = rw is one
+row_told m b i new (Err e) told named is one =
+    let p = err_from_is_err_and told is in
+    rw (p.1, named e p.0 p.2) (refl, one)
 
 wrong-few : (rs ms ws : List ℕ) → wrong rs ms ws ≤ length rs
 wrong-few [] ms ws = omega arith

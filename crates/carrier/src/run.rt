@@ -20,8 +20,8 @@ pub fn run<C: Code + Drop>(code: C, depth: usize, calls: &mut [Call])
     ensures codes { CodesKeep }
 {
     let mut collector = Collector::new(code, depth);
-    for i in 0..calls.len() {
-        step(&mut collector, &mut calls[i]);
+    for call in calls.iter_mut() {
+        step(&mut collector, call);
     }
 }
 

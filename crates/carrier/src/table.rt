@@ -1,7 +1,7 @@
 // The collector's table: at each of 128 places nothing, or a strip with room for 16 numbers.
-ghost use Rattle.std.specs.Prelude.{◌≡◌, ℕ, ◌<◌, ◌≤◌, length, take, replicate, Some, None, slice_index_or, slice_set};
+ghost use Rattle.std.specs.Prelude.{◌≡◌, ℕ, ◌-◌, ◌<◌, ◌≤◌, ◌++◌, length, take, replicate, count_by, Some, None, slice_index_or, slice_set};
 ghost use Rattle.carrier.specs.Book.{filled};
-ghost use Rattle.carrier.specs.Sheets.{received, marks, entry, mark};
+ghost use Rattle.carrier.specs.Sheets.{received, marks};
 
 #[derive(Clone, Copy)]
 pub struct Table {
@@ -19,12 +19,15 @@ impl Table {
         }
     }
 
-    // The place now holds the strip.
-    pub fn put(&mut self, place: usize, strip: [u16; 16])
-        requires { place < 128 }
-        ensures { self.new.strips ≡ slice_set self.old.strips place (Some strip) }
+    // The place now holds the strip, with zeros after it.
+    pub fn put(&mut self, place: usize, strip: &[u16])
+        requires place { place < 128 }
+        requires strip { length strip.now ≤ 16 }
+        ensures { self.new.strips ≡ slice_set self.old.strips place (Some (strip.now ++ replicate (16 - length strip.now) 0)) }
     {
-        self.strips[place] = Some(strip);
+        let mut whole = [0; 16];
+        whole[..strip.len()].copy_from_slice(strip);
+        self.strips[place] = Some(whole);
     }
 
     // The place now holds nothing.
@@ -43,47 +46,34 @@ impl Table {
         self.strips[place].is_some()
     }
 
-    // Number `row` of each of the first strips, with a mark at each place that holds none.
-    pub fn column(&self, row: usize, numbers: &mut [u16], missing: &mut [u8])
-        requires wide { length numbers.old ≤ 128 }
-        requires same { length missing.old ≡ length numbers.old }
-        requires deep { row < 16 }
-        ensures numbers { numbers.new ≡ received row (take (length numbers.old) self.now.strips) }
-        ensures marks { missing.new ≡ marks (take (length numbers.old) self.now.strips) }
+    // How many of the first places hold a strip.
+    pub fn held(&self, places: usize) -> usize
+        requires { places ≤ 128 }
+        ensures { result ≡ count_by filled (take places self.now.strips) }
     {
-        for place in 0..numbers.len() {
-            numbers[place] = self.number(row, place);
-            missing[place] = self.mark(place);
-        }
+        self.strips[..places]
+            .iter()
+            .filter(|strip| strip.is_some())
+            .count()
     }
 
-    // The strip at a place.
-    fn get(&self, place: usize) -> Option<[u16; 16]>
-        requires { place < 128 }
-        ensures { result ≡ slice_index_or self.now.strips place None }
+    // Number `row` of each strip, and a mark at each place that holds none.
+    pub fn column(&self, row: usize) -> ([u16; 128], [u8; 128])
+        requires { row < 16 }
+        ensures numbers { result.0 ≡ received row self.now.strips }
+        ensures marks { result.1 ≡ marks self.now.strips }
     {
-        self.strips[place]
-    }
-
-    // Number `row` of the strip at a place, or 0.
-    fn number(&self, row: usize, place: usize) -> u16
-        requires { (place < 128) × (row < 16) }
-        ensures { result ≡ entry row (slice_index_or self.now.strips place None) }
-    {
-        match self.get(place) {
-            Some(strip) => strip[row],
-            None => 0,
+        let mut numbers = [0; 128];
+        let mut missing = [0; 128];
+        // Both lists are written by place: of what is written through a `zip` of `iter_mut` a proof knows nothing afterwards.
+        for (place, strip) in self.strips.iter().enumerate() {
+            let (number, mark) = match strip {
+                Some(strip) => (strip[row], 0),
+                None => (0, 1),
+            };
+            numbers[place] = number;
+            missing[place] = mark;
         }
-    }
-
-    // 0 where the place holds a strip, and 1 where it is missing.
-    fn mark(&self, place: usize) -> u8
-        requires { place < 128 }
-        ensures { result ≡ mark (slice_index_or self.now.strips place None) }
-    {
-        match self.get(place) {
-            Some(_) => 0,
-            None => 1,
-        }
+        (numbers, missing)
     }
 }

@@ -1,8 +1,9 @@
 -- Strips delivered one after another.
-use Rattle.std.proofs.Common.{◌≡◌, ℕ, zero, suc, ◌+◌, ◌*◌, ◌<◌, ◌≤◌, ◌⊎◌, List, [], ◌∷◌, ◌++◌, map, length, get_or, take, drop, set, replicate, Some, None, Ok, Err, sym, refl, ap, ◌∙◌, subst, inl, inr, append_assoc, arith}
+use Rattle.std.proofs.Common.{◌≡◌, ℕ, zero, suc, ◌+◌, ◌*◌, ◌<◌, ◌≤◌, Bool, cond, ◌⊎◌, List, [], ◌∷◌, ◌++◌, map, length, get_or, take, drop, set, replicate, Some, None, Ok, Err, sym, refl, ap, ◌∙◌, subst, inl, inr, append_assoc, arith}
 use Rattle.std.proofs.ByRecursion.{All-get_or}
 use Rattle.std.proofs.lemmas.List.{drop_more, get_or-drop, append-nil, map_more, take_all}
 use Rattle.std.specs.List.{flat_map, AllByRecursion}
+use Rattle.std.specs.Result.{is_err}
 use Rattle.fields.specs.Checks.{Check, and_then}
 use Rattle.codes.specs.Meaning.{Meaning}
 use Rattle.codes.specs.declared.interface.Issuer as issuer
@@ -39,35 +40,30 @@ declined-after M D b s ss =
       | inr p ↦ declined-any M D p.0 p.1 (entered (deliver_check M D b s.place s.numbers) (set b s.place (Some s.numbers)) b) (after M.long D M.order b (brought s)) ss
     ]
 
-refused-le : (c : Check CollectorFault) → refused c ≤ 1
-refused-le (Ok u) = omega arith
-refused-le (Err f) = omega arith
+pub refused_is : (c : Check CollectorFault) (b : Bool) → is_err c ≡ b → refused c ≡ cond b 1 0
+refused_is (Ok u) b h = ap (λ (x : Bool). cond x 1 0) h
+refused_is (Err f) b h = ap (λ (x : Bool). cond x 1 0) h
 
 -- one more strip: the count of what is declined from there on
-module _ {X : Type 0} (i : issuer.Ghosts X) (s t : Collector X) (ss : List Strip) (at : ℕ) where
+module _ {X : Type 0} (i : issuer.Ghosts X) (s t : Collector X) (ss : List Strip) (at : ℕ) (r : Check CollectorFault) where
   abbrev here : Strip
   here = get_or ss at (strip 0 [])
 
-  abbrev answer : Check CollectorFault
-  answer = deliver_answer i s here.place here.numbers
-
-  pub declined-more : at < length ss → Delivered i s t here.place here.numbers answer →
-      declined (meaning_of i s) s.depth (records_of i s) (drop at ss) ≡ refused answer + declined (meaning_of i t) t.depth (records_of i t) (drop (at + 1) ss)
-  declined-more h left =
+  pub declined-more : at < length ss → r ≡ deliver_answer i s here.place here.numbers → Delivered i s t here.place here.numbers r →
+      declined (meaning_of i s) s.depth (records_of i s) (drop at ss) ≡ refused r + declined (meaning_of i t) t.depth (records_of i t) (drop (at + 1) ss)
+  declined-more h answer left =
       let M = meaning_of i s in
       let D = s.depth in
       let b = records_of i s in
-      let new : Book = entered answer (set b here.place (Some here.numbers)) b in
+      let by : Check CollectorFault → Book = λ r. entered r (set b here.place (Some here.numbers)) b in
       let rest = drop (at + 1) ss in
-      let moved : declined (meaning_of i t) t.depth (records_of i t) rest ≡ declined M D new rest =
+      let moved : declined (meaning_of i t) t.depth (records_of i t) rest ≡ declined M D (by (deliver_answer i s here.place here.numbers)) rest =
       ap (λ (x : X). declined (i.meaning x) t.depth (records_of i t) rest) left.code
       ∙ ap (λ (d : ℕ). declined M d (records_of i t) rest) left.depth
-      ∙ ap (λ (x : Book). declined M D x rest) left.records in
+      ∙ ap (λ (x : Book). declined M D x rest) (left.records ∙ ap by answer) in
       ap (declined M D b) (drop_more ss at (strip 0 []) h)
-      ∙ ap (λ (n : ℕ). refused answer + n) (sym (moved ∙ declined-after M D b here rest))
-
-  pub refused-few : refused answer ≤ 1
-  refused-few = refused-le answer
+      ∙ ap (λ (c : Check CollectorFault). refused c + declined M D (after M.long D M.order b (brought here)) rest) (sym answer)
+      ∙ ap (λ (n : ℕ). refused r + n) (sym (moved ∙ declined-after M D b here rest))
 
 -- one more strip: the calls that have led to the collector
 pub brings_more : {X : Type 0} (i : issuer.Ghosts X) (e s t : Collector X) (ss : List Strip) (at : ℕ) → at < length ss → Brings i e s (take at ss) → Follows i s t (brought (get_or ss at (strip 0 []))) → Brings i e t (take (at + 1) ss)

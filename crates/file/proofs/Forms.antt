@@ -1,7 +1,7 @@
 -- A file's bytes and its heading and strips determine each other.
 use Rattle.std.proofs.Common.{◌≡◌, ℕ, zero, suc, ◌+◌, ◌-◌, ◌*◌, ◌/◌, ◌%◌, ◌<◌, ◌≤◌, List, [], ◌∷◌, ◌++◌, length, get_or, take, drop, sym, refl, ap, ◌∙◌, append_assoc, suc-mul, div-add-mod', le-div_iff_mul-le, zero-mul, mul-div_cancel, arith, lit<, length-append, length-drop, take-append-drop, length-take}
 use native.Mathlib.Nat.{mul-mod_left}
-use Rattle.std.proofs.lemmas.List.{append-nil, take_at, drop_at, nil_from_length, drop-drop, get_or-drop, take-take, drop-take, drop_more, drop_all}
+use Rattle.std.proofs.lemmas.List.{get_or-take, take_all, append-nil, take_at, drop_at, nil_from_length, drop-drop, get_or-drop, take-take, drop-take, drop_more, drop_all}
 use Rattle.std.specs.List.{flat_map, AllByRecursion}
 use Rattle.file.specs.declared.heading.Heading.{Heading}
 use Rattle.file.specs.Form.{Strip, Form, two, strip, strips_bytes, trailer, numbers_in, strip_in, strips_in}
@@ -195,19 +195,23 @@ form_of h back file small eight ends room whole =
 pub room : (i n w : ℕ) → 0 < w → i < n / w → i * w + w ≤ n
 room i n w pos h = let a : suc i * w ≤ n = (le-div_iff_mul-le pos).0 h in omega (arith, suc-mul i w)
 
--- strip i of the part with the strips
-pub piece : (D : ℕ) (bs : List ℕ) (i : ℕ) (d : Strip) → ((i : ℕ) → get_or bs i 0 < 256) → i < length bs / (1 + 2 * D) → (get_or bs (i * (1 + 2 * D)) 0 ≡ (get_or (strips_in D (length bs / (1 + 2 * D)) bs) i d).place) × (take ((i * (1 + 2 * D) + (1 + 2 * D)) - (i * (1 + 2 * D) + 1)) (drop (i * (1 + 2 * D) + 1) bs) ≡ flat_map two (get_or (strips_in D (length bs / (1 + 2 * D)) bs) i d).numbers)
+-- strip i of the part with the strips: its place, and its numbers
+pub piece : (D : ℕ) (bs : List ℕ) (i : ℕ) (d : Strip) → ((i : ℕ) → get_or bs i 0 < 256) → i < length bs / (1 + 2 * D) →
+    (get_or (take (1 + 2 * D) (drop (i * (1 + 2 * D)) bs)) 0 0 ≡ (get_or (strips_in D (length bs / (1 + 2 * D)) bs) i d).place)
+    × (take (length (take (1 + 2 * D) (drop (i * (1 + 2 * D)) bs)) - 1) (drop 1 (take (1 + 2 * D) (drop (i * (1 + 2 * D)) bs))) ≡ flat_map two (get_or (strips_in D (length bs / (1 + 2 * D)) bs) i d).numbers)
 piece D bs i d small h =
     let w : ℕ = 1 + 2 * D in
+    let xs : List ℕ = drop (i * w) bs in
     let at = strip-at D (length bs / w) bs i d h in
     let r = room i (length bs) w (omega arith) h in
-    let here : get_or bs (i * w) 0 ≡ get_or (drop (i * w) bs) 0 0 = ap (λ k. get_or bs k 0) (let z : i * w ≡ i * w + 0 = omega arith in z) ∙ sym (get_or-drop (i * w) bs 0 0) in
-    let past : drop 1 (drop (i * w) bs) ≡ drop (i * w + 1) bs = drop-drop 1 (i * w) bs in
-    let n : (i * w + w) - (i * w + 1) ≡ 2 * D = omega arith in
-    let long : 2 * D ≤ length (drop (i * w + 1) bs) = simp length-drop (omega arith) in
-    let all = bytes_of D (drop (i * w + 1) bs) (λ j. rw (get_or-drop (i * w + 1) bs j 0) (small (i * w + 1 + j))) long in (
-      here ∙ sym (ap (λ (s : Strip). s.place) at),
-      ap (λ k. take k (drop (i * w + 1) bs)) n ∙ sym all ∙ ap (λ x. flat_map two (numbers_in D x)) (sym past) ∙ sym (ap (λ (s : Strip). flat_map two s.numbers) at),
+    let long : w ≤ length xs = simp length-drop (omega arith) in
+    let past : length (drop 1 xs) ≡ length xs - 1 = length-drop 1 xs in
+    let all = bytes_of D (drop 1 xs) (λ j. rw (get_or-drop 1 xs j 0, get_or-drop (i * w) bs (1 + j) 0) (small (i * w + (1 + j)))) (omega arith) in
+    let cut : drop 1 (take w xs) ≡ take (2 * D) (drop 1 xs) = drop-take 1 (2 * D) xs in
+    let few : length (take w xs) - 1 ≡ 2 * D = simp length-take (omega arith) in
+    let whole : length (take (2 * D) (drop 1 xs)) ≤ 2 * D = simp length-take (omega arith) in (
+      get_or-take w xs 0 0 (omega arith) ∙ sym (ap (λ (s : Strip). s.place) at),
+      ap (λ k. take k (drop 1 (take w xs))) few ∙ ap (take (2 * D)) cut ∙ take_all (2 * D) (take (2 * D) (drop 1 xs)) whole ∙ sym all ∙ sym (ap (λ (s : Strip). flat_map two s.numbers) at),
     )
 
 peel : (xs : List ℕ) (i j : ℕ) → i < length xs → i + 1 ≡ j → drop i xs ≡ get_or xs i 0 ∷ drop j xs

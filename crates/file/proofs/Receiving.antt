@@ -1,6 +1,5 @@
 -- The code of a heading that is fit, and what a collector of it makes of a file's strips.
-use Rattle.std.proofs.Common.{◌≡◌, ℕ, ◌+◌, ◌*◌, ◌≤◌, List, ◌++◌, length, take, replicate, Some, None, Ok, Err, Option, Result, sym, refl, ap, ◌∙◌, subst, mul-le-mul, arith, length-append, length-drop, length-take}
-use borrow.Rule.Slice.PartMut.{post_of}
+use Rattle.std.proofs.Common.{◌≡◌, ℕ, ◌+◌, ◌*◌, ◌≤◌, List, ◌++◌, length, take, drop, replicate, Some, None, Ok, Err, Option, Result, sym, refl, ap, ◌∙◌, subst, mul-le-mul, arith, length-append, length-drop, length-take}
 use Rattle.std.proofs.lemmas.Bool.Decides.{nat_tests}
 use Rattle.fields.specs.Arithmetic.{Arithmetic}
 use Rattle.fields.specs.Checks.{Check, and_then}
@@ -18,9 +17,9 @@ use Rattle.file.specs.declared.received.Received.{Received}
 use Rattle.file.specs.declared.source.Outcome.{Outcome}
 use Rattle.file.specs.Deliveries.{declined, book_after}
 use Rattle.file.specs.Form.{Strip}
-use Rattle.file.specs.Meant.{code_of, code_over, field_of}
+use Rattle.file.specs.Meant.{code_of, code_over, field_of, need_of}
 use Rattle.file.specs.Reads.{Taken}
-use Rattle.file.specs.Receipts.{need_of, CollectedBy, Carries, CarriesNone}
+use Rattle.file.specs.Receipts.{CollectedBy, Carries, CarriesNone}
 
 -- a heading's numbers where its collector is fit
 pub record Shape (h : Heading) (M : Meaning) : Type 0 where
@@ -82,8 +81,8 @@ carries file ss x old h e =
     subst P e here
 
 -- a sheet at the start of a blank one
-pub whole_long : (new blank : List ℕ) (z : ℕ) → length blank ≡ 2048 → z ≤ 2048 → length new ≡ z → length (new ++ post_of 0 z blank) ≡ 2048
-whole_long new blank z b h l = length-append new (post_of 0 z blank) ∙ (let d = length-drop z blank in omega arith)
+pub whole_long : (new blank : List ℕ) (z : ℕ) → length blank ≡ 2048 → z ≤ 2048 → length new ≡ z → length (new ++ drop z blank) ≡ 2048
+whole_long new blank z b h l = length-append new (drop z blank) ∙ (let d = length-drop z blank in omega arith)
 
 pub part_long : (blank : List ℕ) (z size : ℕ) → length blank ≡ 2048 → size ≤ 2048 → z ≡ size → length (take z blank) ≡ size
 part_long blank z size b h e = simp length-take (omega arith)

@@ -1,6 +1,7 @@
 pub mod Faults
 pub mod Form
 pub mod Meant
+pub mod Lawful
 pub mod Reads
 pub mod Writes
 pub mod Fetches

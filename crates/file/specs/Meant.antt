@@ -1,5 +1,5 @@
 -- What a heading asks for: a field, and over it the evaluation code with the points 0 to n − 1.
-use Rattle.std.specs.Prelude.{◌≡◌, cond, ◌&&◌, Some, None, Ok, Err, Option, Result, ◌==◌}
+use Rattle.std.specs.Prelude.{◌≡◌, ℕ, ◌+◌, ◌*◌, cond, ◌&&◌, Some, None, Ok, Err, Option, Result, ◌==◌}
 use Rattle.fields.specs.Arithmetic.{Arithmetic}
 use Rattle.fields.specs.Binary.{bytes}
 use Rattle.fields.specs.Primes.{listed, residues}
@@ -37,6 +37,10 @@ code_of h = code_over h (field_of h)
 abbrev pub meaning_in : FileCode → Meaning
 meaning_in (Remainders c) = meant prime-row upto-row prime.ghosts upto.ghosts c
 meaning_in (Bytes c) = meant bytes-row upto-row gf256.ghosts upto.ghosts c
+
+-- the scratch that an evaluation code of n points needs
+abbrev pub need_of : Meaning → ℕ
+need_of M = (M.long + 1) * (M.long + 3)
 
 -- a code that means what the heading asks for, or no field is named
 abbrev pub Chosen : Heading → Result FileCode FileFault → Type 0

@@ -8,7 +8,7 @@ use Rattle.file.specs.declared.fault.FileFault.{FileFault}
 use Rattle.file.specs.declared.fault.FileFault.TheVariants.{TooShort, Field, BackCount, Collector, Output}
 use Rattle.file.specs.declared.heading.Heading.{Heading}
 use Rattle.file.specs.declared.reader.Reader.{Reader}
-use Rattle.file.specs.declared.reader.open.Trailer.{Trailer}
+use Rattle.file.specs.declared.reader.Trailer.{Trailer}
 use Rattle.file.specs.Form.{Strip, Form, two, trailer, strips_in}
 use Rattle.file.specs.Meant.{code_of}
 

@@ -11,11 +11,8 @@ use Rattle.file.specs.declared.received.Received.{Received}
 use Rattle.file.specs.declared.source.Outcome.{Outcome}
 use Rattle.file.specs.Deliveries.{declined, book_after, Collected}
 use Rattle.file.specs.Form.{Strip}
+use Rattle.file.specs.Meant.{need_of}
 use Rattle.file.specs.Reads.{Taken, Declined}
-
--- the scratch that an evaluation code of n points needs
-abbrev pub need_of : Meaning → ℕ
-need_of M = (M.long + 1) * (M.long + 3)
 
 -- what a collector of a heading's code makes of the strips, if the heading names a field
 abbrev pub CollectedBy : Option Meaning → (D : ℕ) → List Strip → (old new scratch scratch' : List ℕ) → Result Outcome FileFault → Type 0

@@ -27,23 +27,15 @@ impl Received {
     pub fn number(&self, row: u8, place: u8) -> u16
         ensures { let x = self.now in result ≡ slice_index x.sheet (row * x.heading.k + place) }
     {
-        let at = row as usize * self.heading.k as usize + place as usize;
-        if at < self.sheet.len() {
-            self.sheet[at]
-        } else {
-            0
-        }
+        let at = usize::from(row) * usize::from(self.heading.k) + usize::from(place);
+        self.sheet.get(at).copied().unwrap_or(0)
     }
 
     // The rows one after another.
     pub fn rows(&self) -> &[u16]
         ensures { let x = self.now in result.now ≡ take (x.heading.depth * x.heading.k) x.sheet }
     {
-        let size = self.heading.depth as usize * self.heading.k as usize;
-        if size < self.sheet.len() {
-            &self.sheet[0..size]
-        } else {
-            &self.sheet
-        }
+        let size = self.heading.size();
+        &self.sheet[..size.min(2048)]
     }
 }

@@ -1,27 +1,24 @@
 // Writing a sheet as a file.
-ghost use Rattle.std.specs.Prelude.{◌≡◌, ℕ, ◌+◌, ◌*◌, ◌<◌, ◌≤◌, length, replicate, Ok, slice_index};
+ghost use Rattle.std.specs.Prelude.{◌≡◌, ℕ, ◌+◌, ◌*◌, ◌<◌, ◌≤◌, length, Ok, slice_index};
 ghost use Rattle.codes.specs.Checks.{number_check};
-ghost use Rattle.carrier.specs.Checks.{fit_check, from_code};
+ghost use Rattle.carrier.specs.Checks.{fit_check};
 ghost use Rattle.file.specs.Form.{trailer, strip_bytes, strips_bytes};
 ghost use Rattle.file.specs.Meant.{code_of};
 ghost use Rattle.file.specs.Writes.{strip_by, strips_by, entry_by, strips_of_sheet, write_check, WrittenWith, WrittenBy};
 
-use crate::choice::{FileCode, check_fitness};
+use crate::choice::FileCode;
 use crate::fault::FileFault;
 use crate::heading::Heading;
 use carrier::fault::CollectorFault;
+use carrier::fitness::check_fitness;
 use codes::checks::check_numbers;
 use codes::interface::Issuer;
-use fields::field::Field;
 
 // Writes all strips of a sheet, first to last, and the trailer, at the output's start, and answers the file's length.
 pub fn write(heading: &Heading, sheet: &[u16], output: &mut [u8]) -> Result<usize, FileFault>
     ensures { let h = heading.now in WrittenBy (code_of h) h sheet.now output.old output.new result }
 {
-    match FileCode::new(heading)? {
-        FileCode::Remainders(code) => write_with(&code, heading, sheet, output),
-        FileCode::Bytes(code) => write_with(&code, heading, sheet, output),
-    }
+    write_with(&FileCode::new(heading)?, heading, sheet, output)
 }
 
 // The same, with the words of a code.
@@ -54,18 +51,10 @@ fn check_write<C: Issuer>(
     if sheet.len() != depth * code.dimension() {
         return Err(FileFault::Collector(CollectorFault::SheetLength));
     }
-    check_sheet(code.order(), sheet)?;
+    check_numbers(code.order(), sheet).map_err(CollectorFault::from)?;
     if room < code.length() * (1 + 2 * depth) + 8 {
         return Err(FileFault::Output);
     }
-    Ok(())
-}
-
-// Refuses the first number of a sheet that is not below the order.
-fn check_sheet(order: u32, sheet: &[u16]) -> Result<(), CollectorFault>
-    ensures { result ≡ from_code (number_check order 0 sheet.now) }
-{
-    check_numbers(order, sheet)?;
     Ok(())
 }
 
@@ -77,29 +66,11 @@ fn put_sheet<C: Issuer>(code: &C, depth: usize, sheet: &[u16], output: &mut [u8]
     requires output { length output.old ≡ (C.Issuer.meaning code.now).long * (1 + 2 * depth) }
     ensures { output.new ≡ strips_bytes (strips_of_sheet (C.Issuer.meaning code.now) depth sheet.now) }
 {
-    let mut words = blank_words();
-    let long = depth * code.length();
-    put_words(code, depth, sheet, &mut words[0..long], output);
-}
-
-// Room for the words of all rows.
-fn blank_words() -> [u16; 2048]
-    ensures { result ≡ replicate 2048 0 }
-{
-    [0; 2048]
-}
-
-// The same, with room for the words of all rows.
-fn put_words<C: Issuer>(code: &C, depth: usize, sheet: &[u16], words: &mut [u16], output: &mut [u8])
-    requires fits { fit_check (C.Issuer.meaning code.now) depth ≡ Ok tt }
-    requires sheet { length sheet.now ≡ depth * (C.Issuer.meaning code.now).dimension }
-    requires below { number_check (C.Issuer.meaning code.now).order 0 sheet.now ≡ Ok tt }
-    requires words { length words.old ≡ depth * (C.Issuer.meaning code.now).long }
-    requires output { length output.old ≡ (C.Issuer.meaning code.now).long * (1 + 2 * depth) }
-    ensures { output.new ≡ strips_bytes (strips_of_sheet (C.Issuer.meaning code.now) depth sheet.now) }
-{
+    let n = code.length();
+    let mut room = [0; 2048];
+    let words = &mut room[..depth * n];
     issue_rows(code, depth, sheet, words);
-    put_strips(words, code.length(), depth, output);
+    put_strips(words, n, depth, output);
 }
 
 // The words of the rows, one after another.
@@ -149,9 +120,9 @@ fn put_strip(words: &[u16], n: usize, depth: usize, place: usize, output: &mut [
 {
     output[0] = place as u8;
     for row in 0..depth {
-        let x = words[row * n + place];
-        output[1 + 2 * row] = (x / 256) as u8;
-        output[2 + 2 * row] = (x % 256) as u8;
+        let [high, low] = words[row * n + place].to_be_bytes();
+        output[1 + 2 * row] = high;
+        output[2 + 2 * row] = low;
     }
 }
 
@@ -160,15 +131,16 @@ fn put_trailer(heading: &Heading, back: u16, output: &mut [u8])
     requires { length output.old ≡ 8 }
     ensures { output.new ≡ trailer heading.now back }
 {
-    let modulus = heading.modulus;
+    let [modulus_high, modulus_low] = heading.modulus.to_be_bytes();
+    let [back_high, back_low] = back.to_be_bytes();
     output.copy_from_slice(&[
         heading.kind,
-        (modulus / 256) as u8,
-        (modulus % 256) as u8,
+        modulus_high,
+        modulus_low,
         heading.n,
         heading.k,
         heading.depth,
-        (back / 256) as u8,
-        (back % 256) as u8,
+        back_high,
+        back_low,
     ]);
 }

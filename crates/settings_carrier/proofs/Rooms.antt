@@ -4,9 +4,9 @@ use borrow.Rule.Slice.PartMut.{post_of}
 use Rattle.codes.specs.Meaning.{Meaning}
 use Rattle.carrier.specs.Checks.{fit}
 use Rattle.file.specs.Form.{Strip}
-use Rattle.file.specs.Meant.{code_of, field_of}
+use Rattle.file.specs.Meant.{code_of, field_of, need_of}
 use Rattle.file.specs.Reads.{Taken, Declined}
-use Rattle.file.specs.Receipts.{need_of, Receives}
+use Rattle.file.specs.Receipts.{Receives}
 use Rattle.file.specs.declared.fault.FileFault.{FileFault}
 use Rattle.file.specs.declared.heading.Heading.{Heading}
 use Rattle.file.specs.declared.received.Received.{Received}

@@ -3,8 +3,7 @@ use Rattle.std.specs.Prelude.{◌≡◌, ℕ, ◌≤◌, List, length, Some, Non
 use Rattle.codes.specs.Meaning.{Meaning, Decoded}
 use Rattle.codes.specs.declared.fault.CodeFault.{CodeFault}
 use Rattle.carrier.specs.declared.fault.CollectorFault.TheVariants.{Code}
-use Rattle.file.specs.Meant.{code_of}
-use Rattle.file.specs.Receipts.{need_of}
+use Rattle.file.specs.Meant.{code_of, need_of}
 use Rattle.file.specs.declared.fault.FileFault.{FileFault}
 use Rattle.file.specs.declared.fault.FileFault.TheVariants.{Field, Collector}
 use Rattle.file.specs.declared.heading.Heading.{Heading}

@@ -15,14 +15,6 @@ impl<C: Code> Collector<C> {
         ensures records { Struck C.Issuer self.old self.new place result }
         ensures run { Follows C.Issuer self.old self.new (strike place) }
     {
-        self.remove(place)
-    }
-
-    // The same, with no word of the calls made before.
-    fn remove(&mut self, place: usize) -> Result<(), CollectorFault>
-        ensures answer { result ≡ strike_answer C.Issuer self.old place }
-        ensures records { Struck C.Issuer self.old self.new place result }
-    {
         self.check_strike(place)?;
         self.table.clear(place);
         Ok(())

@@ -1,5 +1,5 @@
 // Receiving a file: its strips are delivered in order to a new collector, which reads the sheet.
-ghost use Rattle.std.specs.Prelude.{◌≡◌, ℕ, replicate};
+ghost use Rattle.std.specs.Prelude.{◌≡◌};
 ghost use Rattle.file.specs.Meant.{code_of};
 ghost use Rattle.file.specs.Reads.{strips_of};
 ghost use Rattle.file.specs.Receipts.{CollectedBy, Receives};
@@ -22,10 +22,11 @@ pub fn receive(file: &[u8]) -> Result<Received, FileFault>
     }
     let reader = read(file)?;
     let heading = reader.heading();
-    let size = heading.depth as usize * heading.k as usize;
-    let mut sheet = blank_sheet();
-    let mut scratch = blank_scratch();
-    let outcome = collect_from(&reader, &mut sheet[0..size], &mut scratch)?;
+    let size = heading.size();
+    // The largest sheet, and what the decoder of the longest code needs.
+    let mut sheet = [0; 2048];
+    let mut scratch = [0; 16899];
+    let outcome = collect_from(&reader, &mut sheet[..size], &mut scratch)?;
     let kept = outcome.kept;
     let declined = outcome.declined;
     let wrong = outcome.wrong?;
@@ -47,23 +48,12 @@ fn collect_from(
     ensures { let x = reader.now in CollectedBy (code_of x.heading) x.heading.depth (strips_of x) sheet.old sheet.new scratch.old scratch.new result }
 {
     let heading = reader.heading();
-    let depth = heading.depth as usize;
-    match FileCode::new(&heading)? {
-        FileCode::Remainders(code) => Ok(collect(code, depth, reader, sheet, scratch)),
-        FileCode::Bytes(code) => Ok(collect(code, depth, reader, sheet, scratch)),
-    }
-}
-
-// Room for the largest sheet.
-fn blank_sheet() -> [u16; 2048]
-    ensures { result ≡ replicate 2048 0 }
-{
-    [0; 2048]
-}
-
-// Room for the decoder of the longest code.
-fn blank_scratch() -> [u16; 16899]
-    ensures { result ≡ replicate 16899 0 }
-{
-    [0; 16899]
+    let code = FileCode::new(&heading)?;
+    Ok(collect(
+        code,
+        usize::from(heading.depth),
+        reader,
+        sheet,
+        scratch,
+    ))
 }

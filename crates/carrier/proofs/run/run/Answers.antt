@@ -12,8 +12,8 @@ use Rattle.carrier.proofs.Promised.{promised}
 use Rattle.carrier.proofs.Unique.{run_step, fresh_below, fresh_book}
 use Rattle.carrier.proofs.run.run.Goals as goal
 
-pub loop-i-init : goal.loop-i-init
-loop-i-init g c =
+pub loop-call-init : goal.loop-call-init
+loop-call-init g c =
     let s = c.new-collector.result in
     let i = g.C.Issuer in
     let m = i.meaning s.code in
@@ -30,13 +30,13 @@ loop-i-init g c =
 pub step-requires : goal.step-requires
 step-requires g c =
     let i = g.C.Issuer in
-    let inv = c.loop-i.invariant in
-    let was = c.loop-i.collector in
+    let inv = c.loop-call.invariant in
+    let was = c.loop-call.collector in
     let P : g.row.C.Denot → ℕ → Type 0 = λ x d. BookBelow (i.meaning x).order d (records_of i was) in
     subst (λ x. P x was.depth) (sym inv.0) (subst (λ d. P c.new-collector.result.code d) (sym inv.1) inv.2)
 
-pub loop-i-preserved : goal.loop-i-preserved
-loop-i-preserved g c =
+pub loop-call-preserved : goal.loop-call-preserved
+loop-call-preserved g c =
     let i = g.C.Issuer in
     let code = c.new-collector.result.code in
     let D = c.new-collector.result.depth in
@@ -44,18 +44,18 @@ loop-i-preserved g c =
     let n = m.long in
     let q = m.order in
     let k = g.C.Code.need code in
-    let inv = c.loop-i.invariant in
+    let inv = c.loop-call.invariant in
     let now' = c.step.new.collector in
-    let was = c.loop-i.collector in
+    let was = c.loop-call.collector in
     let calls = c.args.calls.now in
-    let at = c.loop-i.i in
-    let d = c.index-calls-i.result in
-    let item = get_or c.loop-i.calls at d in
+    let at = c.loop-call.call-index in
+    let d = c.call-item.result in
+    let item = get_or c.loop-call.calls at d in
     let done = c.step.new.call in
     let a = reply done in
     let st = c.step.ensures in
-    let inside : at < length calls = c.loop-i-test.true in
-    let inside' : at < length c.loop-i.calls = omega (arith, c.loop-i.auto.calls) in
+    let inside : at < length calls = c.loop-call-test.true in
+    let inside' : at < length c.loop-call.calls = omega (arith, c.loop-call.auto.calls) in
     let P : g.row.C.Denot → ℕ → Type 0 = λ x d. Answered (i.meaning x) (g.C.Code.need x) d (records_of i was) (asked item) a
     × (fit_check (i.meaning x) d ≡ Ok tt → records_of i now' ≡ after (i.meaning x).long d (i.meaning x).order (records_of i was) (asked item))
     × BookBelow (i.meaning x).order d (records_of i now') in
@@ -63,42 +63,42 @@ loop-i-preserved g c =
     let f1 : P code was.depth = subst (λ x. P x was.depth) inv.0 f0 in
     let f2 : P code D = subst (λ d. P code d) inv.1 f1 in
     let cs = map asked (take at calls) in
-    let as' = map reply (take at c.loop-i.calls) in
-    let here = drop_more c.loop-i.calls at d inside' in
+    let as' = map reply (take at c.loop-call.calls) in
+    let here = drop_more c.loop-call.calls at d inside' in
     let there = drop_more calls at d inside in
     let both = inv.5 in
     let same : get_or calls at d ≡ item = cc in
-    let rest : drop (at + 1) c.loop-i.calls ≡ drop (at + 1) calls = cc in
+    let rest : drop (at + 1) c.loop-call.calls ≡ drop (at + 1) calls = cc in
     let more : map asked (take (at + 1) calls) ≡ cs ++ (asked item ∷ []) = map_more asked calls at d inside ∙ ap (λ x. cs ++ (asked x ∷ [])) same in
-    let push : map reply (take (at + 1) (set c.loop-i.calls at done)) ≡ as' ++ (a ∷ []) = ap (map reply) (take_more_set c.loop-i.calls at done inside') ∙ map-append reply (take at c.loop-i.calls) (done ∷ []) in
+    let push : map reply (take (at + 1) (set c.loop-call.calls at done)) ≡ as' ++ (a ∷ []) = ap (map reply) (take_more_set c.loop-call.calls at done inside') ∙ map-append reply (take at c.loop-call.calls) (done ∷ []) in
     let r = run_step m k D (replicate n None) (records_of i was) (records_of i now') cs as' (asked item) a inv.3 inv.4 f2.0 f2.1 in (
       st.code ∙ inv.0,
       st.depth ∙ inv.1,
       f2.2,
       subst (λ (x : List Call). fit_check m D ≡ Ok tt → records_of i now' ≡ booked n D q (replicate n None) x) (sym more) r.0,
-      subst (λ (x : List Call). Run m k D (replicate n None) x (map reply (take (at + 1) (set c.loop-i.calls at done)))) (sym more) (subst (λ (y : List Reply). Run m k D (replicate n None) (cs ++ (asked item ∷ [])) y) (sym push) r.1),
-      drop-set-lt (at + 1) c.loop-i.calls at done (omega arith) ∙ rest,
+      subst (λ (x : List Call). Run m k D (replicate n None) x (map reply (take (at + 1) (set c.loop-call.calls at done)))) (sym more) (subst (λ (y : List Reply). Run m k D (replicate n None) (cs ++ (asked item ∷ [])) y) (sym push) r.1),
+      drop-set-lt (at + 1) c.loop-call.calls at done (omega arith) ∙ rest,
     )
 
 pub returns : goal.returns
 returns g c =
     let i = g.C.Issuer in
-    let inv = c.loop-i.invariant in
+    let inv = c.loop-call.invariant in
     let calls = c.args.calls.now in
-    let end = c.loop-i-test.false in
-    let all : map asked (take c.loop-i.i calls) ≡ map asked calls = ap (map asked) (take_all c.loop-i.i calls end) in
-    let end' : length c.loop-i.calls ≤ c.loop-i.i = omega (arith, c.loop-i.auto.calls) in
-    let all' : map reply (take c.loop-i.i c.loop-i.calls) ≡ map reply c.loop-i.calls = ap (map reply) (take_all c.loop-i.i c.loop-i.calls end') in
+    let end = c.loop-call-test.false in
+    let all : map asked (take c.loop-call.call-index calls) ≡ map asked calls = ap (map asked) (take_all c.loop-call.call-index calls end) in
+    let end' : length c.loop-call.calls ≤ c.loop-call.call-index = omega (arith, c.loop-call.auto.calls) in
+    let all' : map reply (take c.loop-call.call-index c.loop-call.calls) ≡ map reply c.loop-call.calls = ap (map reply) (take_all c.loop-call.call-index c.loop-call.calls end') in
     let made = c.new-collector.result in
     let R : g.row.C.Denot → ℕ → List Call → List Reply → Type 0 = λ x d cs rs. Run (i.meaning x) (g.C.Code.need x) d (replicate (i.meaning x).long None) cs rs in
-    let r1 : R made.code made.depth (map asked calls) (map reply (take c.loop-i.i c.loop-i.calls)) =
-    subst (λ (x : List Call). R made.code made.depth x (map reply (take c.loop-i.i c.loop-i.calls))) all inv.4 in
-    let r2 : R made.code made.depth (map asked calls) (map reply c.loop-i.calls) = subst (λ (x : List Reply). R made.code made.depth (map asked calls) x) all' r1 in
-    let r3 = subst (λ (d : ℕ). R made.code d (map asked calls) (map reply c.loop-i.calls)) c.new-collector.ensures.depth r2 in
-    let r4 = subst (λ (x : g.row.C.Denot). R x c.args.depth (map asked calls) (map reply c.loop-i.calls)) c.new-collector.ensures.code r3 in
+    let r1 : R made.code made.depth (map asked calls) (map reply (take c.loop-call.call-index c.loop-call.calls)) =
+    subst (λ (x : List Call). R made.code made.depth x (map reply (take c.loop-call.call-index c.loop-call.calls))) all inv.4 in
+    let r2 : R made.code made.depth (map asked calls) (map reply c.loop-call.calls) = subst (λ (x : List Reply). R made.code made.depth (map asked calls) x) all' r1 in
+    let r3 = subst (λ (d : ℕ). R made.code d (map asked calls) (map reply c.loop-call.calls)) c.new-collector.ensures.depth r2 in
+    let r4 = subst (λ (x : g.row.C.Denot). R x c.args.depth (map asked calls) (map reply c.loop-call.calls)) c.new-collector.ensures.code r3 in
     let keeps = g.met.C.Issuer.sound c.args.code in
     record {
-      promise = promised (i.meaning c.args.code) (g.C.Code.need c.args.code) c.args.depth (map asked calls) (map reply c.loop-i.calls) keeps r4;
+      promise = promised (i.meaning c.args.code) (g.C.Code.need c.args.code) c.args.depth (map asked calls) (map reply c.loop-call.calls) keeps r4;
       keeps = keeps;
       codes = codes_kept;
     }

@@ -1,4 +1,4 @@
-use Rattle.std.proofs.Common.{◌≡◌, ◌+◌, ◌*◌, ◌<◌, ◌≤◌, ◌∷◌, map, length, get_or, sym, ap, ◌∙◌, arith, length-set}
+use Rattle.std.proofs.Common.{◌≡◌, ℕ, ◌+◌, ◌*◌, ◌/◌, ◌%◌, ◌<◌, ◌≤◌, List, ◌∷◌, map, length, get_or, sym, ap, ◌∙◌, arith, length-set}
 use Rattle.std.specs.List.{range_with_len, flat_map}
 use Rattle.std.proofs.lemmas.List.{take_all, take_more_set}
 use Rattle.file.specs.Form.{two}
@@ -16,8 +16,14 @@ bounds-words-row c = omega (arith, c.requires.words, index_within c.loop-row.row
 pub loop-row-preserved : goal.loop-row-preserved
 loop-row-preserved c =
     let k = c.loop-row.auto.output in
-    let room : 1 + 2 * (c.loop-row.row + 1) ≤ length c.loop-row.output = omega (arith, c.requires.output, length-set c.args.output.now 0 c.args.place) in
-    strip-more c.loop-row.output c.args.place c.loop-row.row (λ r. get_or c.args.words.now (r * c.args.n + c.args.place) 0) room c.loop-row.invariant
+    let at = c.loop-row.row in
+    let x = get_or c.args.words.now (at * c.args.n + c.args.place) 0 in
+    let small = (c.type_inv.words (at * c.args.n + c.args.place)).fits in
+    let bytes = c.to_be_bytes.ensures in
+    let high : get_or c.to_be_bytes.result 0 0 ≡ x / 256 = ap (λ (b : List ℕ). get_or b 0 0) bytes ∙ (let z : x / 256 % 256 ≡ x / 256 = omega arith in z) in
+    let low : get_or c.to_be_bytes.result 1 0 ≡ x % 256 = ap (λ (b : List ℕ). get_or b 1 0) bytes in
+    let room : 1 + 2 * (at + 1) ≤ length c.loop-row.output = omega (arith, c.requires.output, length-set c.args.output.now 0 c.args.place) in
+    rw (high, low) (strip-more c.loop-row.output c.args.place at (λ r. get_or c.args.words.now (r * c.args.n + c.args.place) 0) room c.loop-row.invariant)
 
 pub returns : goal.returns
 returns c =

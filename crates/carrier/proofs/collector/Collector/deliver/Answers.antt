@@ -1,24 +1,27 @@
-use Rattle.std.proofs.Common.{set, Some, ap, ◌∙◌}
-use Rattle.carrier.specs.Book.{deliver}
-use Rattle.carrier.specs.Checks.{entered}
-use Rattle.carrier.specs.Records.{meaning_of, records_of, fitness_of}
-use Rattle.carrier.proofs.Books.{after-deliver}
-use Rattle.carrier.proofs.Driven.{follows}
+use Rattle.std.proofs.Common.{◌-◌, length, replicate, Ok, Err, sym, refl, ap, ◌∙◌}
+use Rattle.carrier.specs.declared.collector.Collector.{Collector}
+use Rattle.carrier.specs.Records.{meaning_of, records_of, fitness_of, records, Delivered}
+use Rattle.carrier.proofs.Driven.{delivered-follows}
+use Rattle.carrier.proofs.Records.{accepted, records-put}
 use Rattle.carrier.proofs.collector.Collector.deliver.Goals as goal
+
+pub returns-in_err-check_deliver-clause-run : goal.returns-in_err-check_deliver-clause-run
+returns-in_err-check_deliver-clause-run g c =
+    let s = c.args.self.now in
+    delivered-follows g.C.Issuer s s c.args.place c.args.strip.now (Err c.in_err-check_deliver.field-0.0) c.in_err-check_deliver.ensures (record { code = refl; depth = refl; records = refl })
 
 pub returns : goal.returns
 returns g c =
     let s = c.args.self.now in
     let i = g.C.Issuer in
     let m = meaning_of i s in
-    let b = records_of i s in
-    let place = c.args.place in
     let strip = c.args.strip.now in
-    let new = entered c.enter.result (set b place (Some strip)) b in
-    let e = c.enter.ensures in
-    record {
-      answer = e.answer;
-      records = e.records;
-      run = follows i s c.enter.new.self (deliver place strip) new e.records
-          (λ ok. ap (λ r. entered r (set b place (Some strip)) b) e.answer ∙ after-deliver (fitness_of i s) m.long s.depth m.order b place strip ok);
-    }
+    let ok = c.in_ok-check_deliver.ensures in
+    let p = accepted (fitness_of i s) m.long s.depth m.order (records_of i s) c.args.place strip (sym ok) in
+    let t : Collector g.row.C.Denot = record { code = s.code; depth = s.depth; table = c.put.new.self } in
+    let left : Delivered i s t c.args.place strip (Ok tt) = record {
+      code = refl;
+      depth = refl;
+      records = ap (records m.long s.depth) c.put.ensures ∙ records-put m.long s.depth s.table.strips c.args.place strip (replicate (16 - length strip) 0) p.within p.long;
+    } in
+    record { answer = ok; records = left; run = delivered-follows i s t c.args.place strip (Ok tt) ok left }
