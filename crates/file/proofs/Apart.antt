@@ -1,5 +1,5 @@
 -- What was written is read back, and different sheets give different files.
-use Rattle.std.proofs.Common.{◌≡◌, ℕ, zero, suc, ◌+◌, ◌*◌, ◌<◌, Bool, true, false, cond, ◌&&◌, T, eqb, ◌⊎◌, List, [], ◌∷◌, ◌++◌, map, length, get_or, take, drop, Some, None, Ok, Err, Option, sym, refl, ap, ◌∙◌, subst, inl, inr, append_assoc, suc-mul, arith, length-append, length-drop, length-take, take-add}
+use Rattle.std.proofs.Common.{◌≡◌, ℕ, zero, suc, ◌+◌, ◌*◌, ◌<◌, Bool, true, false, cond, ◌&&◌, IsTrue, T, eqb, ◌⊎◌, List, [], ◌∷◌, ◌++◌, map, length, get_or, take, drop, Some, None, Ok, Err, Option, sym, refl, ap, ◌∙◌, subst, inl, inr, append_assoc, suc-mul, arith, length-append, length-drop, length-take, take-add}
 use Rattle.std.specs.List.{range_with_len, AllByRecursion}
 use Rattle.std.proofs.lemmas.List.FromFn.{get_or-map-range_with_len}
 use Rattle.std.proofs.ByRecursion.{All-take, All-drop}
@@ -79,7 +79,7 @@ back h h' M ss ss' before fit deep =
 -- the field that a heading names keeps the laws
 lawful : (kind known bytes-named : Bool) (p : ℕ) (F : Arithmetic) → known ≡ listed p → cond kind (cond known (Some (residues p)) None) (cond bytes-named (Some bytes) None) ≡ Some F → Laws F
 lawful true true b p F k e =
-    let known : T (listed p) = subst T k tt in
+    let known : IsTrue (listed p) = sym k in
     let prime = listed-prime p known in
     let same : residues p ≡ F = cc in
     subst Laws same record { sizes = listed-sizes prime known; sums = residues-sums prime; products = residues-products prime; inverses = residues-inverses prime }
