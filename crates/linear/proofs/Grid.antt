@@ -1,18 +1,23 @@
 -- Rows of w numbers one after another.
-use Rattle.std.proofs.Common.{◌≡◌, ℕ, suc, ◌+◌, ◌-◌, ◌*◌, ◌<◌, ◌≤◌, ◌≢◌, Some, None, Option, List, ◌++◌, length, get_or, take, drop, sym, ap, ◌∙◌, subst, ap₂, mul-le-mul_right, suc-mul, zero-mul, arith, below_more}
+use Rattle.std.proofs.Common.{◌≡◌, ℕ, suc, ◌+◌, ◌-◌, ◌*◌, ◌/◌, ◌<◌, ◌≤◌, ◌≢◌, Some, None, Option, List, ◌++◌, length, get_or, take, drop, sym, ap, ◌∙◌, subst, ap₂, mul-le-mul_right, suc-mul, zero-mul, arith, below_more}
 use native.Mathlib.Decide.{dec_lt}
 use borrow.Rule.Slice.PartMut.{put_mid}
+use Rattle.std.proofs.Math.Nat.{mul-div_cancel}
 use Rattle.std.proofs.ByRecursion.{All-take, All-drop}
 use Rattle.std.proofs.lemmas.List.{drop_more, drop-take, get_or-take, get_or-drop, drop-drop, drop_at, take_at, take-take, take-append-le, drop-append-le, length-take-le, length-drop}
 use Rattle.std.proofs.lemmas.Slice.{take-put_mid_below, drop-put_mid}
 use Rattle.fields.specs.Arithmetic.{Arithmetic}
 use Rattle.fields.specs.Numbers.{Below}
 use Rattle.std.specs.Option.{MatchOption}
-use Rattle.linear.specs.Equations.{row, dot, Pivot}
+use Rattle.linear.specs.Equations.{height, row, dot, Pivot}
 
 -- row k ends before row n begins
 pub row_ends : (k n w : ℕ) → k < n → k * w + w ≤ n * w
 row_ends k n w h = omega (arith, suc-mul k w, mul-le-mul_right w h)
+
+-- n rows of w numbers
+pub height_is : (w n : ℕ) (s : List ℕ) → 0 < w → n * w ≡ length s → height w s ≡ n
+height_is w n s h e = ap (λ m. m / w) (sym e) ∙ mul-div_cancel n h
 
 pub length-row : (w k : ℕ) (s : List ℕ) → k * w + w ≤ length s → length (row w k s) ≡ w
 length-row w k s h = length-take-le w (drop (k * w) s) (omega (arith, length-drop (k * w) s))

@@ -1,5 +1,5 @@
 -- Homogeneous linear equations: rows of w coefficients that lie one after another in a list.
-use Rattle.std.specs.Prelude.{◌≡◌, ℕ, ◌+◌, ◌*◌, ◌<◌, List, [], ◌∷◌, length, take, drop, ◌≢◌, Some, None, Ok, Err, Option, nat_le, nat_lt, slice_index}
+use Rattle.std.specs.Prelude.{◌≡◌, ℕ, ◌+◌, ◌*◌, ◌/◌, ◌<◌, Bool, true, false, List, [], ◌∷◌, length, take, drop, ◌≢◌, Some, None, Ok, Err, Option, nat_le, nat_lt, slice_index}
 use Rattle.fields.specs.Arithmetic.{Arithmetic}
 use Rattle.fields.specs.Numbers.{Below, Zeros}
 use Rattle.fields.specs.Checks.{Check, unless, unless_found, stray}
@@ -10,6 +10,10 @@ use Rattle.linear.specs.declared.fault.SolveFault.TheVariants.{Unknowns, Scratch
 -- row i
 abbrev pub row : ℕ → ℕ → List ℕ → List ℕ
 row w i s = take w (drop (i * w) s)
+
+-- how many rows of w numbers stand in s
+abbrev pub height : ℕ → List ℕ → ℕ
+height w s = length s / w
 
 -- the sum of the products at each place
 abbrev pub dot : Arithmetic → List ℕ → List ℕ → ℕ
@@ -41,6 +45,16 @@ Pivot w c n s (Some p) = (p < n) × ((k : ℕ) → k < p → slice_index s (k * 
 -- the first n rows have numbers of the field
 abbrev pub Grid : Arithmetic → ℕ → ℕ → List ℕ → Type 0
 Grid F w n s = (i : ℕ) → i < n → Below F.order (row w i s)
+
+-- s is whole rows of w numbers of the field
+pub record Rows (F : Arithmetic) (w : ℕ) (s : List ℕ) : Type 0 where
+  pub whole : height w s * w ≡ length s
+  pub grid : Grid F w (height w s) s
+
+-- whether a row has a number other than 0 in column c: the first row then has one, and what solves the rows s' solves the rows s
+abbrev pub PivotPlaced : Arithmetic → ℕ → ℕ → (s s' : List ℕ) → Bool → Type 0
+PivotPlaced F w c s s' false = (i : ℕ) → i < height w s → slice_index (row w i s) c ≡ 0
+PivotPlaced F w c s s' true = (0 < height w s) × (slice_index s' c ≢ 0) × Grid F w (height w s) s' × Keeps F w c (height w s) s s'
 
 -- v solves the first n rows of w coefficients in s, and is not all zeros
 pub record Solution (F : Arithmetic) (w n : ℕ) (s v : List ℕ) : Type 0 where

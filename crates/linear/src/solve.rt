@@ -1,7 +1,7 @@
 // Homogeneous linear equations over any field, by elimination.
-ghost use Rattle.std.specs.Prelude.{◌≡◌, ℕ, ◌+◌, ◌*◌, ◌<◌, ◌≤◌, true, false, ◌≢◌, length, drop, slice_index};
+ghost use Rattle.std.specs.Prelude.{◌≡◌, ℕ, ◌+◌, ◌*◌, ◌<◌, length, drop};
 ghost use Rattle.fields.specs.Numbers.{Below, Zeros};
-ghost use Rattle.linear.specs.Equations.{row, Pivot, Solves, Keeps, Cleared, Grid, Solution, Solved, solve_check};
+ghost use Rattle.linear.specs.Equations.{height, Rows, Grid, Pivot, PivotPlaced, Cleared, Solves, Solution, Solved, solve_check};
 ghost use Rattle.linear.specs.Operations.{operations};
 
 use crate::fault::SolveFault;
@@ -53,68 +53,45 @@ fn solve_rows<F: Field>(f: &F, room: &mut [u16], count: usize, solution: &mut [u
     requires grid { Grid (operations F.Field f.now) (length solution.old) count room.old }
     ensures { Solution (operations F.Field f.now) (length solution.old) count room.old solution.new }
 {
-    let w = solution.len();
-    let (rows, spare) = room.split_at_mut(count * w);
-    eliminate(f, rows, spare, w, count, 0, solution);
+    let (rows, spare) = room.split_at_mut(count * solution.len());
+    eliminate(f, rows, spare, 0, solution);
 }
 
 // Solves the rows from column `c` on, where the columns before it are not looked at: the numbers of `v` from `c` on are a solution, not all of them 0.
 // A column of zeros is solved by a 1 there and zeros after it. Otherwise the first row, scaled to a 1 in the column, clears the
 // column in the rows below it, which are solved from the next column on, and the first row then gives the number at `c`.
-fn eliminate<F: Field>(
-    f: &F,
-    rows: &mut [u16],
-    spare: &mut [u16],
-    w: usize,
-    count: usize,
-    c: usize,
-    v: &mut [u16],
-)
-    requires size { count * w ≡ length rows.old }
-    requires column { count + c < w }
-    requires room { length spare.old ≡ w }
-    requires unknowns { length v.old ≡ w }
-    requires grid { Grid (operations F.Field f.now) w count rows.old }
-    ensures solves { Solves (operations F.Field f.now) w c count rows.old (drop c v.new) }
+fn eliminate<F: Field>(f: &F, rows: &mut [u16], spare: &mut [u16], c: usize, v: &mut [u16])
+    requires column { let w = length v.old in height w rows.old + c < w }
+    requires room { length spare.old ≡ length v.old }
+    requires rows { Rows (operations F.Field f.now) (length v.old) rows.old }
+    ensures solves { let w = length v.old in Solves (operations F.Field f.now) w c (height w rows.old) rows.old (drop c v.new) }
     ensures nonzero { Zeros (drop c v.new) → ⊥ }
     ensures below { Below (operations F.Field f.now).order (drop c v.new) }
 {
-    if !place_pivot(f, rows, spare, w, count, c) {
+    if !place_pivot(f, rows, spare, c) {
         v.fill(0);
         v[c] = 1;
         return;
     }
-    let (first, rest) = rows.split_at_mut(w);
+    let (first, rest) = rows.split_at_mut(v.len());
     let pivot = first[c];
     let Some(inverse) = f.inverse(pivot) else {
         unreachable()
     };
     scale_row(f, first, inverse);
-    clear_column(f, rest, w, count - 1, c, first);
-    eliminate(f, rest, spare, w, count - 1, c + 1, v);
-    v[c] = f.negate(multiply_rows(f, &first[c + 1..w], &v[c + 1..w]));
+    clear_column(f, rest, c, first);
+    eliminate(f, rest, spare, c + 1, v);
+    v[c] = f.negate(multiply_rows(f, &first[c + 1..], &v[c + 1..]));
 }
 
-// Gives the first row a number other than 0 in column `c`, if any row has one, and keeps the solutions.
-fn place_pivot<F: Field>(
-    f: &F,
-    rows: &mut [u16],
-    spare: &mut [u16],
-    w: usize,
-    count: usize,
-    c: usize,
-) -> bool
-    requires size { count * w ≡ length rows.old }
-    requires column { c < w }
-    requires room { length spare.old ≡ w }
-    requires grid { Grid (operations F.Field f.now) w count rows.old }
-    ensures none { result ≡ false → (i : ℕ) → i < count → slice_index (row w i rows.old) c ≡ 0 }
-    ensures some { result ≡ true → 0 < count }
-    ensures lead { result ≡ true → slice_index rows.new c ≢ 0 }
-    ensures grid { result ≡ true → Grid (operations F.Field f.now) w count rows.new }
-    ensures keeps { result ≡ true → Keeps (operations F.Field f.now) w c count rows.old rows.new }
+// Gives the first row a number other than 0 in column `c`, if any row has one, and keeps the solutions. A row is as long as `spare`.
+fn place_pivot<F: Field>(f: &F, rows: &mut [u16], spare: &mut [u16], c: usize) -> bool
+    requires column { c < length spare.old }
+    requires rows { Rows (operations F.Field f.now) (length spare.old) rows.old }
+    ensures { PivotPlaced (operations F.Field f.now) (length spare.old) c rows.old rows.new result }
 {
-    let Some(p) = find_pivot(rows, w, count, c) else {
+    let w = spare.len();
+    let Some(p) = find_pivot(rows, w, c) else {
         return false;
     };
     if p > 0 {
@@ -124,24 +101,24 @@ fn place_pivot<F: Field>(
     true
 }
 
-// The first of the rows with a number other than 0 in column `c`.
-fn find_pivot(rows: &[u16], w: usize, count: usize, c: usize) -> Option<usize>
-    requires size { count * w ≤ length rows.now }
+// The first of the rows of `w` numbers with a number other than 0 in column `c`.
+fn find_pivot(rows: &[u16], w: usize, c: usize) -> Option<usize>
+    requires whole { height w rows.now * w ≡ length rows.now }
     requires column { c < w }
-    ensures { Pivot w c count rows.now result }
+    ensures { Pivot w c (height w rows.now) rows.now result }
 {
-    (0..count).find(|k| rows[k * w + c] != 0)
+    (0..rows.len() / w).find(|k| rows[k * w + c] != 0)
 }
 
 // Subtracts from each row the multiple of the pivot row that makes its number in column `c` 0, where the pivot row has a 1.
-fn clear_column<F: Field>(f: &F, rows: &mut [u16], w: usize, count: usize, c: usize, pivot: &[u16])
-    requires size { count * w ≡ length rows.old }
-    requires column { c < w }
-    requires wide { length pivot.now ≡ w }
-    ensures { Cleared (operations F.Field f.now) w c count rows.old rows.new pivot.now }
+fn clear_column<F: Field>(f: &F, rows: &mut [u16], c: usize, pivot: &[u16])
+    requires whole { let w = length pivot.now in height w rows.old * w ≡ length rows.old }
+    requires column { c < length pivot.now }
+    ensures { let w = length pivot.now in Cleared (operations F.Field f.now) w c (height w rows.old) rows.old rows.new pivot.now }
 {
+    let w = pivot.len();
     // A row in the middle of the scratch is lent; a proof knows nothing of what is written through `chunks_exact_mut`.
-    for k in 0..count {
+    for k in 0..rows.len() / w {
         let from = k * w;
         let by = rows[from + c];
         subtract_row(f, &mut rows[from..from + w], by, pivot);

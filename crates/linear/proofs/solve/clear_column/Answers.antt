@@ -1,30 +1,31 @@
 use Rattle.std.proofs.Common.{◌≡◌, ℕ, ◌+◌, ◌-◌, ◌*◌, ◌≤◌, List, length, get_or, take, drop, sym, ap, ◌∙◌, arith}
 use Rattle.linear.specs.Operations.{operations}
-use Rattle.linear.specs.Equations.{row, reduced}
+use Rattle.linear.specs.Equations.{height, row, reduced}
 use Rattle.linear.proofs.Grid.{row_ends, get_or-row, length-row, rows_more}
 use Rattle.linear.proofs.solve.clear_column.Goals as goal
 
 pub offset_bounds-rows-from : goal.offset_bounds-rows-from
-offset_bounds-rows-from g c = omega (arith, row_ends c.loop-k.k c.args.count c.args.w c.loop-k-test.true)
+offset_bounds-rows-from g c = omega (arith, row_ends c.loop-k.k (height (length c.args.pivot.now) c.args.rows.now) (length c.args.pivot.now) c.loop-k-test.true, c.requires.whole)
 
 pub bounds-rows-from : goal.bounds-rows-from
-bounds-rows-from g c = omega (arith, row_ends c.loop-k.k c.args.count c.args.w c.loop-k-test.true)
+bounds-rows-from g c = omega (arith, row_ends c.loop-k.k (height (length c.args.pivot.now) c.args.rows.now) (length c.args.pivot.now) c.loop-k-test.true, c.requires.whole)
 
 pub offset_bounds-rows-from-in-loop-k : goal.offset_bounds-rows-from-in-loop-k
-offset_bounds-rows-from-in-loop-k g c = omega (arith, row_ends c.loop-k.k c.args.count c.args.w c.loop-k-test.true)
+offset_bounds-rows-from-in-loop-k g c = omega (arith, row_ends c.loop-k.k (height (length c.args.pivot.now) c.args.rows.now) (length c.args.pivot.now) c.loop-k-test.true, c.requires.whole)
 
 pub slice_bounds-subtract_row-end : goal.slice_bounds-subtract_row-end
-slice_bounds-subtract_row-end g c = omega (arith, row_ends c.loop-k.k c.args.count c.args.w c.loop-k-test.true)
+slice_bounds-subtract_row-end g c = omega (arith, row_ends c.loop-k.k (height (length c.args.pivot.now) c.args.rows.now) (length c.args.pivot.now) c.loop-k-test.true, c.requires.whole)
 
 pub loop-k-preserved : goal.loop-k-preserved
 loop-k-preserved g c =
     let F = operations g.F.Field c.args.f.now in
-    let w = c.args.w in
+    let w = length c.args.pivot.now in
+    let n = height w c.args.rows.now in
     let k = c.loop-k.k in
     let s = c.loop-k.rows in
     let old = c.args.rows.now in
     let G : ℕ → List ℕ = λ j. reduced F (row w j old) (get_or (row w j old) c.args.c 0) c.args.pivot.now in
-    let ends : k * w + w ≤ c.args.count * w = row_ends k c.args.count w c.loop-k-test.true in
+    let ends : k * w + w ≤ n * w = row_ends k n w c.loop-k-test.true in
     let width : k * w + w - k * w ≡ w = omega arith in
     let here : row w k s ≡ row w k old = c.loop-k.invariant.1 k (omega arith) in
     let by : get_or s (k * w + c.args.c) 0 ≡ get_or (row w k old) c.args.c 0 = sym (get_or-row w k c.args.c s (omega arith)) ∙ ap (λ r. get_or r c.args.c 0) here in

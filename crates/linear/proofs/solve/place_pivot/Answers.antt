@@ -1,38 +1,32 @@
-use Rattle.std.proofs.Common.{◌≡◌, ℕ, suc, ◌+◌, ◌-◌, ◌*◌, ◌<◌, ◌≢◌, List, ◌++◌, get_or, take, drop, sym, ap, ◌∙◌, subst, ap₂, arith}
+use Rattle.std.proofs.Common.{◌≡◌, ℕ, suc, ◌+◌, ◌-◌, ◌*◌, ◌<◌, ◌≢◌, List, ◌++◌, length, get_or, take, drop, sym, ap, ◌∙◌, subst, ap₂, arith}
 use borrow.Author.Tests.{clash}
 use Rattle.fields.proofs.Total.{TotalLaws}
 use Rattle.linear.specs.Operations.{operations}
 use Rattle.linear.proofs.Lawful.{lawful}
-use Rattle.linear.specs.Equations.{row, reduced, Grid, Solves}
+use Rattle.linear.specs.Equations.{height, row, reduced, Grid, Solves}
 use Rattle.linear.proofs.Grid.{row_ends, get_or-row, row_zero}
 use Rattle.linear.proofs.Kernel.{raised_lead, raised_grid, raised_keeps}
 use Rattle.linear.proofs.solve.place_pivot.Goals as goal
 
 pub returns-in_default : goal.returns-in_default
-returns-in_default g c = record {
-  none = λ _ i h. get_or-row c.args.w i c.args.c c.args.rows.now (omega arith) ∙ c.in_default.ensures i h;
-  some = λ e. absurd (clash e);
-  lead = λ e. absurd (clash e);
-  grid = λ e. absurd (clash e);
-  keeps = λ e. absurd (clash e);
-}
+returns-in_default g c = λ i h. get_or-row (length c.args.spare.now) i c.args.c c.args.rows.now c.requires.column ∙ c.in_default.ensures i h
 
 pub offset_bounds-rows-p : goal.offset_bounds-rows-p
-offset_bounds-rows-p g c = omega (arith, row_ends c.in-Some.p c.args.count c.args.w c.in-Some.ensures.0)
+offset_bounds-rows-p g c = omega (arith, row_ends c.in-Some.p (height (length c.args.spare.now) c.args.rows.now) (length c.args.spare.now) c.in-Some.ensures.0, c.requires.rows.whole)
 
 pub slice_bounds-copy_from_slice-end : goal.slice_bounds-copy_from_slice-end
-slice_bounds-copy_from_slice-end g c = omega (arith, row_ends c.in-Some.p c.args.count c.args.w c.in-Some.ensures.0)
+slice_bounds-copy_from_slice-end g c = omega (arith, row_ends c.in-Some.p (height (length c.args.spare.now) c.args.rows.now) (length c.args.spare.now) c.in-Some.ensures.0, c.requires.rows.whole)
 
 pub slice_bounds-subtract_row-end : goal.slice_bounds-subtract_row-end
-slice_bounds-subtract_row-end g c = omega (arith, row_ends c.in-Some.p c.args.count c.args.w c.in-Some.ensures.0)
+slice_bounds-subtract_row-end g c = omega (arith, row_ends c.in-Some.p (height (length c.args.spare.now) c.args.rows.now) (length c.args.spare.now) c.in-Some.ensures.0, c.requires.rows.whole)
 
 pub returns-then-p-gt0 : goal.returns-then-p-gt0
 returns-then-p-gt0 g c =
     let f = c.args.f.now in
     let F = operations g.F.Field f in
     let L : TotalLaws F = lawful g.F.Field f (g.met.F.Field.sizes f) (g.met.F.Field.sums f) (g.met.F.Field.products f) (g.met.F.Field.inverses f) in
-    let w = c.args.w in
-    let n = c.args.count in
+    let w = length c.args.spare.now in
+    let n = height w c.args.rows.now in
     let p = c.in-Some.p in
     let found = c.in-Some.ensures in
     let s = c.args.rows.now in
@@ -46,12 +40,11 @@ returns-then-p-gt0 g c =
     let spare : c.copy_from_slice.new.self ≡ row w (suc k) s = c.copy_from_slice.ensures.after ∙ ap (λ m. take m (drop (p * w) s)) width ∙ ap (λ m. row w m s) pk in
     let front : take (w - 0) s ≡ row w 0 s = ap (λ m. take m s) whole ∙ sym (row_zero w s) in
     let is : ys ≡ reduced F (row w 0 s) 1 (row w (suc k) s) = c.subtract_row.ensures ∙ ap₂ (λ a b. reduced F a 1 b) front spare in
-    record {
-      none = λ e. absurd (clash (sym e));
-      some = λ _. omega (arith, found.0);
-      lead = λ _. subst (λ (r : List ℕ). get_or (ys ++ r) c.args.c 0 ≢ 0) (sym t) (raised_lead F L w c.args.c n k s ys c.requires.size within is c.requires.column c.requires.grid
+    (
+      omega (arith, found.0),
+      subst (λ (r : List ℕ). get_or (ys ++ r) c.args.c 0 ≢ 0) (sym t) (raised_lead F L w c.args.c n k s ys c.requires.rows.whole within is c.requires.column c.requires.rows.grid
           (get_or-row w 0 c.args.c s c.requires.column ∙ found.1 0 c.if-p-gt0.true)
-          (λ z. found.2 (sym (get_or-row w p c.args.c s c.requires.column) ∙ ap (λ m. get_or (row w m s) c.args.c 0) pk ∙ z)));
-      grid = λ _. subst (λ (r : List ℕ). Grid F w n (ys ++ r)) (sym t) (raised_grid F L w c.args.c n k s ys c.requires.size within is c.requires.grid);
-      keeps = λ _ u h. raised_keeps F L w c.args.c n k s ys c.requires.size within is u (subst (λ (r : List ℕ). Solves F w c.args.c n (ys ++ r) u) t h);
-    }
+          (λ z. found.2 (sym (get_or-row w p c.args.c s c.requires.column) ∙ ap (λ m. get_or (row w m s) c.args.c 0) pk ∙ z))),
+      subst (λ (r : List ℕ). Grid F w n (ys ++ r)) (sym t) (raised_grid F L w c.args.c n k s ys c.requires.rows.whole within is c.requires.rows.grid),
+      λ u h. raised_keeps F L w c.args.c n k s ys c.requires.rows.whole within is u (subst (λ (r : List ℕ). Solves F w c.args.c n (ys ++ r) u) t h),
+    )
