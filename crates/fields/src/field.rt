@@ -1,6 +1,6 @@
 // What a field is: a size q, and a sum, an opposite, a product and an inverse on the numbers below q, which keep the laws of a field.
 ghost use Rattle.std.specs.Prelude.{◌≡◌, ℕ};
-ghost use Rattle.fields.specs.Arithmetic.{Arithmetic, counted, total, inverted};
+ghost use Rattle.fields.specs.Arithmetic.{Arithmetic, total, inverted};
 ghost use Rattle.fields.specs.Laws.{Sizes, Sums, Products, Inverses};
 
 // An argument that is not below q counts as 0, and no call alters a field.
@@ -34,11 +34,4 @@ pub trait Field {
     ghost products: { (f : Self) → Products (arithmetic f) };
 
     ghost inverses: { (f : Self) → Inverses (arithmetic f) };
-}
-
-// What an argument counts as in a field of size q.
-pub(crate) fn counted_below(q: u32, a: u16) -> u16
-    ensures { result ≡ counted q a }
-{
-    if u32::from(a) < q { a } else { 0 }
 }

@@ -1,13 +1,13 @@
 // The fields of remainders by a prime number.
 ghost use Rattle.std.specs.Prelude.{◌≡◌, ℕ, ◌*◌, ◌%◌, ◌<◌, IsTrue};
-ghost use Rattle.fields.specs.Arithmetic.{partner};
+ghost use Rattle.fields.specs.Arithmetic.{counted, partner};
 ghost use Rattle.fields.specs.Numbers.{among};
 ghost use Rattle.fields.specs.Primes.{IsPrime, listed, moduli, residues};
 ghost use Rattle.fields.specs.Primality.{listed-sizes};
 ghost use Rattle.fields.specs.Remainders.{residues-sums, residues-products, residues-inverses};
 
 use crate::fault::FieldFault;
-use crate::field::{Field, counted_below};
+use crate::field::Field;
 use crate::numbers::is_among;
 
 // The listed moduli: the primes below 100 and three larger ones.
@@ -44,6 +44,13 @@ impl Prime {
             Err(FieldFault::Unlisted)
         }
     }
+
+    // What an argument counts as in this field.
+    fn counted(&self, a: u16) -> u32
+        ensures { result ≡ counted self.now.modulus a }
+    {
+        if a < self.modulus { u32::from(a) } else { 0 }
+    }
 }
 
 impl Field for Prime {
@@ -62,31 +69,22 @@ impl Field for Prime {
     }
 
     fn add(&self, a: u16, b: u16) -> u16 {
-        let p = u32::from(self.modulus);
-        let a = u32::from(counted_below(p, a));
-        let b = u32::from(counted_below(p, b));
-        ((a + b) % p) as u16
+        ((self.counted(a) + self.counted(b)) % self.order()) as u16
     }
 
     fn negate(&self, a: u16) -> u16 {
         let p = u32::from(self.modulus);
-        let a = u32::from(counted_below(p, a));
-        ((p - a) % p) as u16
+        ((p - self.counted(a)) % p) as u16
     }
 
     fn multiply(&self, a: u16, b: u16) -> u16 {
-        let p = u32::from(self.modulus);
-        let a = u32::from(counted_below(p, a));
-        let b = u32::from(counted_below(p, b));
-        (a * b % p) as u16
+        (self.counted(a) * self.counted(b) % self.order()) as u16
     }
 
     fn inverse(&self, a: u16) -> Option<u16> {
-        let a = counted_below(u32::from(self.modulus), a);
-        if a == 0 {
-            None
-        } else {
-            Some(inverse_by(self.modulus, a))
+        match self.counted(a) {
+            0 => None,
+            a => Some(inverse_by(self.modulus, a as u16)),
         }
     }
 }
