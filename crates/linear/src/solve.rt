@@ -34,9 +34,7 @@ fn check_system(order: u32, scratch: &[u16], count: usize, w: usize) -> Result<(
     if w <= count {
         return Err(SolveFault::Unknowns);
     }
-    let Some(need) = (count + 1).checked_mul(w) else {
-        return Err(SolveFault::Scratch);
-    };
+    let need = (count + 1).checked_mul(w).ok_or(SolveFault::Scratch)?;
     if scratch.len() < need {
         return Err(SolveFault::Scratch);
     }
