@@ -1,6 +1,8 @@
 -- Lemmas of the repetition code and its decoder.
-use Rattle.std.proofs.Common.{◌≡◌, ℕ, suc, ◌+◌, ◌<◌, ◌≤◌, cond, eqb, List, [], ◌∷◌, length, get_or, set, replicate, Ok, sym, refl, ap, ◌∙◌, subst, arith}
+use Rattle.std.proofs.Common.{◌≡◌, ℕ, zero, suc, ◌+◌, ◌<◌, ◌≤◌, cond, eqb, List, [], ◌∷◌, length, get_or, set, replicate, Ok, sym, refl, ap, ◌∙◌, subst, arith}
 use Rattle.std.proofs.lemmas.Bool.Decides.{nat_tests}
+use Rattle.codes.proofs.Passed.{unmarked_below}
+use Rattle.codes.specs.Checks.{unmarked_check}
 use Rattle.codes.specs.Meaning.{Solved}
 use Rattle.codes.specs.Words.{wrong, missing}
 use Rattle.repetition.specs.Made.{Repeats}
@@ -21,8 +23,44 @@ absent (r ∷ rs) (m ∷ ms) x e h =
     one : (m r x : ℕ) → (m ≡ 0 → r ≡ x → ⊥) → cond {A = ℕ} (eqb m 0) (cond (eqb r x) 0 1) 0 + cond (eqb m 0) 0 1 ≡ 1
     one m r x here = grind (arith, nat_tests)
 
+-- no unmarked number of the list xs, with its marks ns, is near
+abbrev pub NoneNear : (rs ms xs ns : List ℕ) → Type 0
+NoneNear rs ms xs ns = (j : ℕ) → j < length xs → get_or ns j 0 ≡ 0 → Near rs ms (get_or xs j 0) → ⊥
+
+-- what is known of the numbers xs that are left in a search, with their marks ns
+pub record Left (q : ℕ) (rs ms xs ns : List ℕ) : Type 0 where
+  pub same : length xs ≡ length ns
+  pub place : ℕ
+  pub checked : unmarked_check q place xs ns ≡ Ok tt
+  -- where none of them is near, none of all is
+  pub none : NoneNear rs ms xs ns → NoneNear rs ms rs ms
+
+none-more : (rs ms xs ns : List ℕ) (x n : ℕ) → (n ≡ 0 → Near rs ms x → ⊥) → NoneNear rs ms xs ns → NoneNear rs ms (x ∷ xs) (n ∷ ns)
+none-more rs ms xs ns x n here rest zero h e near = here e near
+none-more rs ms xs ns x n here rest (suc j) h e near = rest j (omega arith) e near
+
+rest-checked : (q i x n : ℕ) (xs ns : List ℕ) → unmarked_check q i (x ∷ xs) (n ∷ ns) ≡ Ok tt → unmarked_check q (i + 1) xs ns ≡ Ok tt
+rest-checked q i x n xs ns e = grind (arith, nat_tests)
+
+-- one number fewer is left, which is marked or not near
+pub left-fewer : (q : ℕ) (rs ms xs ns xs' ns' : List ℕ) (x n : ℕ) → xs ≡ x ∷ xs' → ns ≡ n ∷ ns' → (n ≡ 0 → Near rs ms x → ⊥) → Left q rs ms xs ns → Left q rs ms xs' ns'
+left-fewer q rs ms xs ns xs' ns' x n ex en here l =
+    let k : Left q rs ms (x ∷ xs') (n ∷ ns') = subst (Left q rs ms (x ∷ xs')) en (subst (λ ys. Left q rs ms ys ns) ex l) in
+    record {
+      same = omega (arith, k.same);
+      place = k.place + 1;
+      checked = rest-checked q k.place x n xs' ns' k.checked;
+      none = λ h. k.none (none-more rs ms xs' ns' x n here h);
+    }
+
+-- the first number that is left is below the order, where it is not marked
+pub left-below : (q : ℕ) (rs ms xs ns xs' ns' : List ℕ) (x n : ℕ) → xs ≡ x ∷ xs' → ns ≡ n ∷ ns' → n ≡ 0 → Left q rs ms xs ns → x < q
+left-below q rs ms xs ns xs' ns' x n ex en z l =
+    let k : Left q rs ms (x ∷ xs') (n ∷ ns') = subst (Left q rs ms (x ∷ xs')) en (subst (λ ys. Left q rs ms ys ns) ex l) in
+    unmarked_below q k.place (x ∷ xs') (n ∷ ns') k.checked k.same 0 (omega arith) z
+
 -- where no received number is near, none is
-pub none_near : (rs ms : List ℕ) → length rs ≡ length ms → ((j : ℕ) → j < length rs → get_or ms j 0 ≡ 0 → Near rs ms (get_or rs j 0) → ⊥) → (x : ℕ) → Near rs ms x → ⊥
+pub none_near : (rs ms : List ℕ) → length rs ≡ length ms → NoneNear rs ms rs ms → (x : ℕ) → Near rs ms x → ⊥
 none_near rs ms e h x near =
     let a = absent rs ms x e (λ j l m v. h j l m (subst (Near rs ms) (sym v) near)) in omega arith
 

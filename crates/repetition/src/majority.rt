@@ -15,12 +15,11 @@ pub fn majority(order: u32, received: &[u16], marks: &[u8]) -> Result<(u16, usiz
     ensures { Nearest order received.now marks.now result }
 {
     let missing = count_missing(marks);
-    for (i, mark) in marks.iter().enumerate() {
+    for (number, mark) in received.iter().zip(marks) {
         if *mark == 0 {
-            let number = received[i];
-            let wrong = count_wrong(received, marks, number);
+            let wrong = count_wrong(received, marks, *number);
             if 2 * wrong + missing < received.len() {
-                return Ok((number, wrong));
+                return Ok((*number, wrong));
             }
         }
     }

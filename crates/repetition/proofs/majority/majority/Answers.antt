@@ -1,7 +1,14 @@
-use Rattle.std.proofs.Common.{◌<◌, length, refl, arith}
-use Rattle.codes.proofs.Passed.{unmarked_below}
-use Rattle.repetition.proofs.Repeats.{none_near, missing-few}
+use Rattle.std.proofs.Common.{◌≡◌, length, refl, sym, inl, inr, ◌∙◌, subst, arith}
+use Rattle.repetition.proofs.Repeats.{Left, left-fewer, left-below, none_near, missing-few}
 use Rattle.repetition.proofs.majority.majority.Goals as goal
+
+pub loop-number-init : goal.loop-number-init
+loop-number-init c =
+    let rs = c.args.received.now in
+    let ms = c.args.marks.now in
+    let numbers : c.into_iter-number-iterator.result.a.rest.now ≡ rs = cc in
+    let marks : c.into_iter-number-iterator.result.b.rest.now ≡ ms = cc in
+    rw (numbers, marks) (record { same = c.requires.same; place = 0; checked = c.requires.below; none = λ h. h })
 
 pub overflow_add-wrong : goal.overflow_add-wrong
 overflow_add-wrong c =
@@ -14,12 +21,20 @@ pub returns-then-wrong-missing : goal.returns-then-wrong-missing
 returns-then-wrong-missing c =
     let v = c.count_wrong-wrong.ensures.value in
     let e = c.count_missing-missing.ensures in
-    let b : c.loop-i.i < length c.args.received.now = omega arith in
+    let step = c.in-Some.ensures.steps in
     record {
       near = omega arith;
-      below = unmarked_below c.args.order 0 c.args.received.now c.args.marks.now c.requires.below c.requires.same c.loop-i.i b c.if-mark-eq0.true;
+      below = left-below c.args.order c.args.received.now c.args.marks.now _ _ _ _ c.in-Some.number.now c.in-Some.mark.now step.0 step.1 c.if-mark-eq0.true c.loop-number.invariant;
       counted = v;
     }
 
+pub loop-number-preserved : goal.loop-number-preserved
+loop-number-preserved c =
+    let step = c.in-Some.ensures.steps in
+    left-fewer c.args.order c.args.received.now c.args.marks.now _ _ _ _ c.in-Some.number.now c.in-Some.mark.now step.0 step.1 (λ z. absurd (c.if-mark-eq0.false z)) c.loop-number.invariant
+
 pub returns : goal.returns
-returns c = record { fault = refl; none = none_near c.args.received.now c.args.marks.now c.requires.same (λ j h. c.loop-i.invariant j (omega arith)) }
+returns c =
+    let left = c.loop-number.number-iterator.a.rest.now in
+    let end : length left ≡ 0 = elim c.in-None.ensures.steps [ | inl e ↦ e.1.0 | inr e ↦ c.loop-number.invariant.same ∙ e.1.0 ] in
+    record { fault = refl; none = none_near c.args.received.now c.args.marks.now c.requires.same (c.loop-number.invariant.none (λ j h. absurd (omega arith))) }

@@ -1,6 +1,5 @@
-use Rattle.std.proofs.Common.{◌≡◌, ℕ, ◌<◌, get_or}
-use Rattle.repetition.specs.Repeats.{Near}
+use Rattle.repetition.proofs.Repeats.{Left}
 use Rattle.repetition.proofs.majority.majority.Given as goal
 
-abbrev pub invariant-loop-i : goal.invariant-loop-i
-invariant-loop-i l = (j : ℕ) → j < l.i → get_or l.marks j 0 ≡ 0 → Near l.received l.marks (get_or l.received j 0) → ⊥
+abbrev pub invariant-loop-number : goal.invariant-loop-number
+invariant-loop-number l = Left l.order l.received l.marks l.number-iterator.a.rest.now l.number-iterator.b.rest.now
