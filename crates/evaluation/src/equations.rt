@@ -19,16 +19,11 @@ pub fn write_equations<F: Field>(
     ensures { let r = received.now in Equations (operations F.Field f.now) w a (present r.marks.now r.points.now) (present r.marks.now r.numbers.now) rows.new }
 {
     let mut r = 0;
-    for (j, mark) in received.marks.iter().enumerate() {
+    let numbers = received.points.iter().zip(received.numbers);
+    for ((x, y), mark) in numbers.zip(received.marks) {
         if *mark == 0 {
             let from = r * w;
-            write_equation(
-                f,
-                &mut rows[from..from + w],
-                a,
-                received.points[j],
-                received.numbers[j],
-            );
+            write_equation(f, &mut rows[from..from + w], a, *x, *y);
             r += 1;
         }
     }
