@@ -109,6 +109,7 @@ fn count_wrong<F: Field>(f: &F, received: &ReceivedWord<'_>, message: &[u16]) ->
     ensures { let r = received.now in result ≡ wrong r.numbers.now r.marks.now (word (operations F.Field f.now) r.points.now message.now) }
 {
     let mut wrong: usize = 0;
+    // A rule of the project: wrong numbers are counted over the marks, by index.
     for (j, mark) in received.marks.iter().enumerate() {
         if *mark == 0 && received.numbers[j] != evaluate(f, message, received.points[j]) {
             wrong += 1;

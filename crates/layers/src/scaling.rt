@@ -26,6 +26,7 @@ pub fn scale_word<F: Field, M: Numbers>(field: &F, multipliers: &M, word: &mut [
     requires { length (M.Numbers.listed multipliers.now) ≡ length word.old }
     ensures { word.new ≡ products (total (F.Field.arithmetic field.now)) (M.Numbers.listed multipliers.now) word.old }
 {
+    // A list of multipliers is asked for each by its place.
     for (i, x) in word.iter_mut().enumerate() {
         *x = field.multiply(multipliers.at(i), *x);
     }
@@ -58,6 +59,7 @@ pub fn divide_word<F: Field, M: Numbers>(
         (M.Numbers.listed multipliers.now) received.now marks.now }
 {
     let mut word = blank();
+    // A list of multipliers is asked for each by its place.
     for (i, mark) in marks.iter().enumerate() {
         if *mark == 0 {
             word[i] = divide(field, multipliers.at(i), received[i]);

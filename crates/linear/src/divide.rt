@@ -74,6 +74,7 @@ fn divide_by_lead<F: Field>(
         unreachable()
     };
     quotient.fill(0);
+    // By index: the parts of the dividend overlap, and no iterator lends such parts one after another.
     for i in (0..dividend.len().saturating_sub(lead)).rev() {
         let by = f.multiply(dividend[i + lead], inverse);
         quotient[i] = by;

@@ -33,6 +33,7 @@ fn count_wrong(received: &[u16], marks: &[u8], number: u16) -> usize
     ensures few { result ≤ length received.now }
 {
     let mut count: usize = 0;
+    // A rule of the project: wrong numbers are counted over the marks, by index.
     for (i, mark) in marks.iter().enumerate() {
         if *mark == 0 && received[i] != number {
             count += 1;
