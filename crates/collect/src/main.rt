@@ -12,20 +12,26 @@
 
 #![tactic(auto)]
 
-use answers::answer_all;
+use answers::Bench;
 use lines::{Line, parse_line};
-use std::alloc::Global;
+use std::alloc::{AllocError, Global};
 use std::io;
+use texts::fault::LineFault;
 
 mod answers;
 mod lines;
+mod session;
 mod settings;
 
 // The lines of the text, each understood or not.
-fn parse_lines(heap: Global, text: &str) -> anyhow::Result<Vec<Line>> {
+fn parse_lines(heap: Global, text: &str) -> Result<Vec<Line>, AllocError> {
     let mut parsed = Vec::new(heap);
-    for line in text.lines() {
-        parsed.push(parse_line(heap, line)?)?;
+    for text in text.lines() {
+        parsed.push(match parse_line(heap, text) {
+            Ok(line) => line,
+            Err(LineFault::Unknown) => Line::Unknown,
+            Err(LineFault::Memory) => return Err(AllocError),
+        })?;
     }
     Ok(parsed)
 }
@@ -33,6 +39,6 @@ fn parse_lines(heap: Global, text: &str) -> anyhow::Result<Vec<Line>> {
 fn main(rt: HostRuntime) -> anyhow::Result<()> {
     let text = io::read_to_string(rt.alloc(), rt.stdin())?;
     let lines = parse_lines(rt.alloc(), text.as_str())?;
-    answer_all(&rt, &lines)?;
+    Bench::new(&rt, &lines).answer_all()?;
     Ok(())
 }

@@ -9,22 +9,13 @@
 
 #![tactic(auto)]
 
-use file::fault::FileFault;
 use file::received::{Received, receive};
 use std::io;
 use std::io::Read;
+use texts::spaced::Spaced;
 
 // One byte more than a file may have, by which a longer one is known.
 const LIMIT: u64 = 65536;
-
-// Prints `row`, its number, and the numbers of the row.
-fn print_row(rt: &HostRuntime, received: &Received, row: u8) -> io::Result<()> {
-    print!(rt; "row {row}")?;
-    for place in 0..received.heading.k {
-        print!(rt; " {}", received.number(row, place))?;
-    }
-    println!(rt; "")
-}
 
 // Prints the heading, the counts, and each row.
 fn print_sheet(rt: &HostRuntime, received: &Received) -> io::Result<()> {
@@ -37,20 +28,11 @@ fn print_sheet(rt: &HostRuntime, received: &Received) -> io::Result<()> {
         "kept {} declined {} wrong {}",
         received.kept, received.declined, received.wrong
     )?;
-    for row in 0..heading.depth {
-        print_row(rt, received, row)?;
+    let width = usize::from(heading.k).max(1);
+    for (row, numbers) in received.rows().chunks(width).enumerate() {
+        println!(rt; "row {row}{}", Spaced(numbers))?;
     }
     Ok(())
-}
-
-// Prints why there is no sheet.
-fn print_refusal(rt: &HostRuntime, fault: FileFault) -> io::Result<()> {
-    println!(rt;
-        "refused {} place {} row {}",
-        fault.number(),
-        fault.place(),
-        fault.row()
-    )
 }
 
 fn main(rt: HostRuntime) -> anyhow::Result<()> {
@@ -58,7 +40,7 @@ fn main(rt: HostRuntime) -> anyhow::Result<()> {
     rt.stdin().take(LIMIT).read_to_end(&mut bytes)?;
     match receive(&bytes) {
         Ok(received) => print_sheet(&rt, &received)?,
-        Err(fault) => print_refusal(&rt, fault)?,
+        Err(fault) => println!(rt; "{fault}")?,
     }
     Ok(())
 }

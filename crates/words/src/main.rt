@@ -13,23 +13,33 @@ ghost use Rattle.std.specs.Prelude.{◌≡◌, IfOk};
 ghost use Rattle.linear.specs.Operations.{operations};
 ghost use Rattle.linear.specs.Polynomials.{word};
 
+use fields::any::AnyField;
 use fields::field::Field;
-use fields::gf256::Gf256;
-use fields::prime::Prime;
 use linear::polynomial::evaluate;
 use std::alloc::{AllocError, Global};
-use std::io;
-use std::str::{Lines, SplitWhitespace};
+use std::num::ParseIntError;
+use std::str::Lines;
+use std::{fmt, io};
+use texts::spaced::Spaced;
+use texts::words::Words;
 
 // Why a line has no answer.
-#[derive(Drop)]
+#[derive(Debug, Drop)]
 enum Trouble {
     // It does not begin with a word that is known, or what follows is no list of numbers.
     Unknown,
     // A number that is not below the field's order.
-    Number(u16),
+    Number { number: u16, order: u32 },
     // There is no memory for its numbers.
     Memory,
+    // The answer is not printed.
+    Output(io::Error),
+}
+
+impl From<ParseIntError> for Trouble {
+    fn from(_error: ParseIntError) -> Trouble {
+        Trouble::Unknown
+    }
 }
 
 impl From<AllocError> for Trouble {
@@ -38,50 +48,45 @@ impl From<AllocError> for Trouble {
     }
 }
 
-// A field that a line names.
-enum Named {
-    Bytes(Gf256),
-    Remainders(Prime),
+impl From<io::Error> for Trouble {
+    fn from(error: io::Error) -> Trouble {
+        Trouble::Output(error)
+    }
+}
+
+impl fmt::Display for Trouble {
+    fn fmt<W: fmt::Write>(&self, f: &mut fmt::Formatter<W>) -> fmt::Result {
+        match self {
+            Trouble::Unknown => f.write_str("not understood"),
+            Trouble::Number { number, order } => write!(f, "{number} is not below {order}"),
+            Trouble::Memory => f.write_str("no memory"),
+            Trouble::Output(error) => write!(f, "{error}"),
+        }
+    }
 }
 
 // The field that a line names: `field gf256`, or `field prime` and a listed modulus.
-fn named_field(line: &str) -> Option<Named> {
-    let mut words = line.split_whitespace();
-    if words.next() != Some("field") {
-        return None;
-    }
-    match words.next() {
-        Some("gf256") => Some(Named::Bytes(Gf256::new())),
-        Some("prime") => match words.next()?.parse::<u16>() {
-            Ok(modulus) => match Prime::new(modulus) {
-                Ok(field) => Some(Named::Remainders(field)),
-                Err(_) => None,
-            },
-            Err(_) => None,
-        },
-        _ => None,
+fn named_field(line: &str) -> Option<AnyField> {
+    let mut words = Words::of(line);
+    words.expect("field").ok()?;
+    words.field().ok()?.ok()
+}
+
+// The number in a word, which has to be below the order.
+fn number_below(order: u32, word: &str) -> Result<u16, Trouble> {
+    let number = word.parse::<u16>()?;
+    if u32::from(number) < order {
+        Ok(number)
+    } else {
+        Err(Trouble::Number { number, order })
     }
 }
 
 // The numbers with which a line goes on, each below the field's order.
-fn numbers<F: Field>(
-    heap: Global,
-    field: &F,
-    words: SplitWhitespace<'_>,
-) -> Result<Vec<u16>, Trouble> {
-    let mut list = Vec::new(heap);
-    for text in words {
-        let Ok(number) = text.parse::<u16>() else {
-            return Err(Trouble::Unknown);
-        };
-        if u32::from(number) >= field.order() {
-            return Err(Trouble::Number(number));
-        }
-        if list.push(number).is_err() {
-            return Err(Trouble::Memory);
-        }
-    }
-    Ok(list)
+fn numbers<F: Field>(heap: Global, field: &F, words: Words<'_>) -> Result<Vec<u16>, Trouble> {
+    words
+        .map(|word| number_below(field.order(), word))
+        .try_collect(heap)
 }
 
 // The word of a message: the values of its polynomial at the points.
@@ -93,87 +98,74 @@ fn word_of<F: Field>(
 ) -> Result<Vec<u16>, AllocError>
     ensures { IfOk result (λ v. v.items ≡ word (operations F.Field field.now) points.now message.now) }
 {
-    let mut entries = Vec::new(heap);
-    for x in points {
-        entries.push(evaluate(field, message, *x))?;
-    }
-    Ok(entries)
+    points
+        .iter()
+        .map(|x| evaluate(field, message, *x))
+        .collect(heap)
 }
 
-// Prints `word` and the numbers.
-fn print_word(rt: &HostRuntime, numbers: &[u16]) -> io::Result<()> {
-    print!(rt; "word")?;
-    for number in numbers {
-        print!(rt; " {number}")?;
-    }
-    println!(rt; "")
+// Words over a field: the points that are set are kept for the messages that follow.
+#[derive(Drop)]
+struct Bench<'a> {
+    rt: &'a HostRuntime,
+    field: AnyField,
+    points: Vec<u16>,
 }
 
-// Answers one line: points are kept for the messages that follow, and a message's word is printed.
-fn answer_line<F: Field>(
-    rt: &HostRuntime,
-    field: &F,
-    points: &mut Vec<u16>,
-    line: &str,
-) -> io::Result<Option<Trouble>> {
-    let heap = rt.alloc();
-    let mut words = line.split_whitespace();
-    match words.next() {
-        None => Ok(None),
-        Some("points") => match numbers(heap, field, words) {
-            Ok(list) => {
-                *points = list;
-                Ok(None)
-            }
-            Err(trouble) => Ok(Some(trouble)),
-        },
-        Some("message") => match numbers(heap, field, words) {
-            Ok(message) => {
-                let entries = word_of(heap, field, points, &message)?;
-                print_word(rt, &entries)?;
-                Ok(None)
-            }
-            Err(trouble) => Ok(Some(trouble)),
-        },
-        Some(_) => Ok(Some(Trouble::Unknown)),
-    }
-}
-
-// Answers each line over the field; the first of them is the second of the input.
-fn answer_lines<F: Field>(rt: &HostRuntime, field: &F, lines: Lines<'_>) -> io::Result<()> {
-    let mut points = Vec::new(rt.alloc());
-    for (i, line) in lines.enumerate() {
-        let at = i.saturating_add(2);
-        match answer_line(rt, field, &mut points, line)? {
+impl Bench<'_> {
+    // Answers one line: points are kept, and a message's word is printed.
+    fn answer(&mut self, line: &str) -> Result<(), Trouble> {
+        let heap = self.rt.alloc();
+        let mut words = Words::of(line);
+        match words.next() {
             None => {}
-            Some(Trouble::Unknown) => println!(rt; "line {at}: not understood")?,
-            Some(Trouble::Number(number)) => println!(rt;
-                "line {at}: {number} is not below {}",
-                field.order()
-            )?,
-            Some(Trouble::Memory) => println!(rt; "line {at}: no memory")?,
+            Some("points") => self.points = numbers(heap, &self.field, words)?,
+            Some("message") => {
+                let message = numbers(heap, &self.field, words)?;
+                let word = word_of(heap, &self.field, &self.points, &message)?;
+                println!(self.rt; "word{}", Spaced(&word))?;
+            }
+            Some(_) => return Err(Trouble::Unknown),
         }
+        Ok(())
     }
-    Ok(())
+
+    // Answers each line; the first of them is the second of the input.
+    fn answer_all(&mut self, lines: Lines<'_>) -> io::Result<()> {
+        for (i, line) in lines.enumerate() {
+            let at = i.saturating_add(2);
+            match self.answer(line) {
+                Ok(()) => {}
+                Err(Trouble::Output(error)) => return Err(error),
+                Err(trouble) => println!(self.rt; "line {at}: {trouble}")?,
+            }
+        }
+        Ok(())
+    }
 }
 
 fn main(rt: HostRuntime) -> anyhow::Result<()> {
     let text = io::read_to_string(rt.alloc(), rt.stdin())?;
     let mut lines = text.as_str().lines();
-    let Some(named) = named_field(lines.next().unwrap_or("")) else {
+    let Some(field) = named_field(lines.next().unwrap_or("")) else {
         println!(rt; "line 1: `field gf256`, or `field prime` and a listed modulus, was expected")?;
         return Ok(());
     };
-    match named {
-        Named::Bytes(field) => answer_lines(&rt, &field, lines)?,
-        Named::Remainders(field) => answer_lines(&rt, &field, lines)?,
+    let points = Vec::new(rt.alloc());
+    Bench {
+        rt: &rt,
+        field,
+        points,
     }
+    .answer_all(lines)?;
     Ok(())
 }
 
 #[cfg(test)]
 mod tests {
     use super::*;
+    use fields::gf256::Gf256;
+    use fields::prime::Prime;
     use std::test::Fail;
 
     #[test]

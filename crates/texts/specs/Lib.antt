@@ -1,0 +1,3 @@
+pub mod Lone
+pub mod Words
+pub mod Spaced

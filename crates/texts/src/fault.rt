@@ -1,0 +1,41 @@
+// Why a line is not read.
+ghost use Rattle.std.specs.Prelude.{◌≡◌};
+ghost use Rattle.texts.specs.declared.fault.LineFault.TheVariants.{Unknown, Memory};
+
+use std::alloc::{AllocError, AllocFailed};
+use std::num::ParseIntError;
+
+#[derive(Clone, Copy, PartialEq, Eq, Debug)]
+pub enum LineFault {
+    // A word is missing, or is one too many, or is not what has to stand there.
+    Unknown,
+    // There is no memory for what the line says.
+    Memory,
+}
+
+// Where there is no memory, the line is not read.
+impl From<AllocError> for LineFault {
+    ghost from_gives = { λ _ r. r ≡ Memory };
+
+    fn from(_error: AllocError) -> LineFault {
+        LineFault::Memory
+    }
+}
+
+// Where there is no memory for an item, the line is not read.
+impl<T: Drop> From<AllocFailed<T>> for LineFault {
+    ghost from_gives = { λ _ r. r ≡ Memory };
+
+    fn from(_error: AllocFailed<T>) -> LineFault {
+        LineFault::Memory
+    }
+}
+
+// A word that has to be a number and is none is not understood.
+impl From<ParseIntError> for LineFault {
+    ghost from_gives = { λ _ r. r ≡ Unknown };
+
+    fn from(_error: ParseIntError) -> LineFault {
+        LineFault::Unknown
+    }
+}

@@ -1,0 +1,7 @@
+// Lines of words and numbers, as the programs take and print them.
+
+#![tactic(auto)]
+
+pub mod fault;
+pub mod spaced;
+pub mod words;
