@@ -5,7 +5,7 @@ use crate::heading::Heading;
 
 mod reception;
 
-pub use reception::receive;
+pub use reception::{LONGEST, receive};
 
 // The sheet that a file's strips carry, and how they fared.
 #[derive(Drop)]
