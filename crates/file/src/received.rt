@@ -36,6 +36,6 @@ impl Received {
         ensures { let x = self.now in result.now ≡ take (x.heading.depth * x.heading.k) x.sheet }
     {
         let size = self.heading.size();
-        &self.sheet[..size.min(2048)]
+        &self.sheet[..size.min(self.sheet.len())]
     }
 }

@@ -1,7 +1,7 @@
 // The multipliers of a symbol, in any field.
 ghost use Rattle.std.specs.Prelude.{◌≡◌, ℕ, ◌<◌, length, None};
 ghost use Rattle.linear.specs.Operations.{operations};
-ghost use Rattle.symbols.specs.Symbols.{differences, divisor as divided-by, multiplier as multiplied-by, Lacking, Filled, Multiplied};
+ghost use Rattle.symbols.specs.Symbols.{divisor as divided-by, multiplier as multiplied-by, Lacking, Filled, Multiplied};
 
 use crate::fault::SymbolFault;
 use crate::powers::power;
@@ -61,13 +61,10 @@ fn divisor<F: Field>(f: &F, b: u16, points: &[u16], j: usize) -> u16
     ensures { result ≡ divided-by (operations F.Field f.now) b points.now j }
 {
     let x = points[j];
-    let before = multiply_differences(f, power(f, x, b), x, &points[0..j]);
-    multiply_differences(f, before, x, &points[j + 1..])
-}
-
-// c times the differences x - y, for each y of the list.
-fn multiply_differences<F: Field>(f: &F, c: u16, x: u16, ys: &[u16]) -> u16
-    ensures { result ≡ differences (operations F.Field f.now) c x ys.now }
-{
-    ys.iter().fold(c, |product, y| f.multiply(product, f.add(x, f.negate(*y))))
+    points[..j]
+        .iter()
+        .chain(&points[j + 1..])
+        .fold(power(f, x, b), |product, y| {
+            f.multiply(product, f.add(x, f.negate(*y)))
+        })
 }
