@@ -1,5 +1,5 @@
 -- The code that a heading asks for keeps the code meaning.
-use Rattle.std.specs.Prelude.{◌≡◌, ℕ, ◌≤◌, Ok}
+use Rattle.std.specs.Prelude.{◌≡◌, ◌≤◌, Ok}
 use Rattle.fields.specs.Binary.{bytes}
 use Rattle.fields.specs.Bytes.{bytes-sizes, bytes-sums, bytes-products, bytes-inverses}
 use Rattle.fields.specs.Laws.{Laws}

@@ -1,5 +1,5 @@
 -- What receiving a file gives.
-use Rattle.std.specs.Prelude.{◌≡◌, ℕ, ◌+◌, ◌*◌, ◌<◌, ◌≤◌, ◌⊎◌, List, length, take, replicate, Some, None, Ok, Err, Option, Result}
+use Rattle.std.specs.Prelude.{◌≡◌, ℕ, ◌*◌, ◌<◌, ◌≤◌, ◌⊎◌, List, length, take, replicate, Some, None, Ok, Err, Option, Result}
 use Rattle.codes.specs.Meaning.{Meaning}
 use Rattle.carrier.specs.Places.{held_places}
 use Rattle.carrier.specs.Promise.{Reading}

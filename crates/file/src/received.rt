@@ -5,7 +5,7 @@ use crate::heading::Heading;
 
 mod reception;
 
-pub use reception::receive;
+pub use reception::{LONGEST, receive};
 
 // The sheet that a file's strips carry, and how they fared.
 #[derive(Drop)]
@@ -36,6 +36,6 @@ impl Received {
         ensures { let x = self.now in result.now ≡ take (x.heading.depth * x.heading.k) x.sheet }
     {
         let size = self.heading.size();
-        &self.sheet[..size.min(2048)]
+        &self.sheet[..size.min(self.sheet.len())]
     }
 }

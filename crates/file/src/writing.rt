@@ -14,6 +14,16 @@ use carrier::fitness::check_fitness;
 use codes::checks::check_numbers;
 use codes::interface::Issuer;
 
+// The words of a sheet's rows, one after another.
+#[derive(Clone, Copy)]
+struct Words<'a> {
+    numbers: &'a [u16],
+    long: usize,
+    depth: usize,
+    ghost rows: { length numbers.now ≡ depth * long },
+    ghost few: { (long ≤ 128) × (depth ≤ 16) },
+}
+
 // Writes all strips of a sheet, first to last, and the trailer, at the output's start, and answers the file's length.
 pub fn write(heading: &Heading, sheet: &[u16], output: &mut [u8]) -> Result<usize, FileFault>
     ensures { let h = heading.now in WrittenBy (code_of h) h sheet.now output.old output.new result }
@@ -30,10 +40,10 @@ fn write_with<C: Issuer>(
 ) -> Result<usize, FileFault>
     ensures { WrittenWith (C.Issuer.meaning code.now) heading.now sheet.now output.old output.new result }
 {
-    let depth = heading.depth as usize;
+    let depth = usize::from(heading.depth);
     check_write(code, depth, sheet, output.len())?;
-    let size = code.length() * (1 + 2 * depth);
-    put_sheet(code, depth, sheet, &mut output[0..size]);
+    let size = code.length() * heading.width();
+    put_sheet(code, depth, sheet, &mut output[..size]);
     put_trailer(heading, size as u16, &mut output[size..size + 8]);
     Ok(size + 8)
 }
@@ -70,7 +80,12 @@ fn put_sheet<C: Issuer>(code: &C, depth: usize, sheet: &[u16], output: &mut [u8]
     let mut room = [0; 2048];
     let words = &mut room[..depth * n];
     issue_rows(code, depth, sheet, words);
-    put_strips(words, n, depth, output);
+    let words = Words {
+        numbers: words,
+        long: n,
+        depth,
+    };
+    words.put_strips(output);
 }
 
 // The words of the rows, one after another.
@@ -83,46 +98,40 @@ fn issue_rows<C: Issuer>(code: &C, depth: usize, sheet: &[u16], words: &mut [u16
 {
     let n = code.length();
     let k = code.dimension();
+    // The rows are cut by number: of what is written through `chunks_exact_mut` a proof knows nothing afterwards.
     for row in 0..depth {
-        let _ = code.issue(
-            &sheet[row * k..row * k + k],
-            &mut words[row * n..row * n + n],
-        );
+        let message = &sheet[row * k..row * k + k];
+        let _ = code.issue(message, &mut words[row * n..row * n + n]);
     }
 }
 
-// The strips of n places and so many rows, one after another.
-fn put_strips(words: &[u16], n: usize, depth: usize, output: &mut [u8])
-    requires words { length words.now ≡ depth * n }
-    requires few { (n ≤ 128) × (depth ≤ 16) }
-    requires output { length output.old ≡ n * (1 + 2 * depth) }
-    ensures { output.new ≡ strips_bytes (strips_by (λ r j. slice_index words.now (r * n + j)) depth n) }
-{
-    let width = 1 + 2 * depth;
-    for place in 0..n {
-        put_strip(
-            words,
-            n,
-            depth,
-            place,
-            &mut output[place * width..place * width + width],
-        );
+impl Words<'_> {
+    // The strips of all places, one after another.
+    fn put_strips(&self, output: &mut [u8])
+        requires output { length output.old ≡ self.now.long * (1 + 2 * self.now.depth) }
+        ensures { let x = self.now in output.new ≡ strips_bytes (strips_by (λ r j. slice_index x.numbers.now (r * x.long + j)) x.depth x.long) }
+    {
+        let width = 1 + 2 * self.depth;
+        // The strips are cut by number: of what is written through `chunks_exact_mut` a proof knows nothing afterwards.
+        for place in 0..self.long {
+            let start = place * width;
+            self.put_strip(place, &mut output[start..start + width]);
+        }
     }
-}
 
-// One strip: its place, and the number of each row.
-fn put_strip(words: &[u16], n: usize, depth: usize, place: usize, output: &mut [u8])
-    requires words { length words.now ≡ depth * n }
-    requires few { (n ≤ 128) × (depth ≤ 16) }
-    requires within { place < n }
-    requires output { length output.old ≡ 1 + 2 * depth }
-    ensures { output.new ≡ strip_bytes (strip_by (λ r j. slice_index words.now (r * n + j)) depth place) }
-{
-    output[0] = place as u8;
-    for row in 0..depth {
-        let [high, low] = words[row * n + place].to_be_bytes();
-        output[1 + 2 * row] = high;
-        output[2 + 2 * row] = low;
+    // One strip: its place, and the number of each row.
+    fn put_strip(&self, place: usize, output: &mut [u8])
+        requires within { place < self.now.long }
+        requires output { length output.old ≡ 1 + 2 * self.now.depth }
+        ensures { let x = self.now in output.new ≡ strip_bytes (strip_by (λ r j. slice_index x.numbers.now (r * x.long + j)) x.depth place) }
+    {
+        output[0] = place as u8;
+        // The numbers are written by row, for the same reason.
+        for row in 0..self.depth {
+            let [high, low] = self.numbers[row * self.long + place].to_be_bytes();
+            output[1 + 2 * row] = high;
+            output[2 + 2 * row] = low;
+        }
     }
 }
 

@@ -1,6 +1,5 @@
 -- The room for a sheet, and the scratch for a decoder.
-use Rattle.std.proofs.Common.{◌≡◌, ℕ, ◌+◌, ◌-◌, ◌*◌, ◌≤◌, List, ◌++◌, length, take, drop, Some, Ok, Err, Result, ap, inl, inr, mul-le-mul, arith, length-take}
-use borrow.Rule.Slice.PartMut.{post_of}
+use Rattle.std.proofs.Common.{◌≡◌, ℕ, ◌+◌, ◌*◌, ◌≤◌, List, ◌++◌, length, take, drop, Some, Ok, Err, Result, ap, inl, inr, mul-le-mul, arith, length-take}
 use Rattle.codes.specs.Meaning.{Meaning}
 use Rattle.carrier.specs.Checks.{fit}
 use Rattle.file.specs.Form.{Strip}
@@ -33,9 +32,9 @@ roomy file room h ss taken fits h' ss' short taken' =
     omega (arith, ap size same, fits)
 
 -- rows at the start of a buffer
-pub placed : (x : Received) (rows part old : List ℕ) → rows ≡ take (size x.heading) x.sheet → size x.heading ≤ 2048 → part ≡ rows → part ++ post_of 0 (length rows - 0) old ≡ take (size x.heading) x.sheet ++ drop (size x.heading) old
+pub placed : (x : Received) (rows part old : List ℕ) → rows ≡ take (size x.heading) x.sheet → size x.heading ≤ 2048 → part ≡ rows → part ++ drop (length rows) old ≡ take (size x.heading) x.sheet ++ drop (size x.heading) old
 placed x rows part old e few same =
-    let long : length rows - 0 ≡ size x.heading = rw e (simp length-take (omega (arith, x.full, few))) in
+    let long : length rows ≡ size x.heading = rw e (simp length-take (omega (arith, x.full, few))) in
     rw (long, same, e)
 
 -- the scratch of a fit code of a heading's

@@ -1,7 +1,6 @@
 // Decoding one word.
-ghost use Rattle.std.specs.Prelude.{◌≡◌, replicate};
 ghost use Rattle.file.specs.Meant.{code_of};
-ghost use Rattle.settings_carrier.specs.Decodings.{DecodedWith, DecodedBy, Decodes};
+ghost use Rattle.settings_carrier.specs.Decodings.{DecodedBy, Decodes};
 ghost use Rattle.settings_carrier.specs.Reports.{headed};
 
 use crate::report::{Tally, tell};
@@ -34,21 +33,12 @@ pub extern "C" fn carrier_decode(
         k,
         depth: 1,
     };
-    let mut scratch = blank_scratch();
-    tell(
-        decode_by(&heading, received, marks, message, &mut scratch),
-        tally,
-    )
+    let mut scratch = [0; 16899];
+    let outcome = decode_by(&heading, received, marks, message, &mut scratch);
+    tell(outcome, tally)
 }
 
-// Room for the decoder of the longest code.
-fn blank_scratch() -> [u16; 16899]
-    ensures { result ≡ replicate 16899 0 }
-{
-    [0; 16899]
-}
-
-// Decodes with the code that a heading asks for.
+// Decodes with the code that a heading asks for, and hands its fault on as one of a file.
 fn decode_by(
     heading: &Heading,
     received: &[u16],
@@ -59,25 +49,9 @@ fn decode_by(
     ensures { DecodedBy (code_of heading.now) received.now marks.now
         message.old message.new scratch.old scratch.new result }
 {
-    match FileCode::new(heading)? {
-        FileCode::Remainders(code) => decode_with(&code, received, marks, message, scratch),
-        FileCode::Bytes(code) => decode_with(&code, received, marks, message, scratch),
-    }
-}
-
-// Decodes with a code, and hands its fault on as one of a file.
-fn decode_with<C: Code>(
-    code: &C,
-    received: &[u16],
-    marks: &[u8],
-    message: &mut [u16],
-    scratch: &mut [u16],
-) -> Result<usize, FileFault>
-    ensures { DecodedWith (C.Issuer.meaning code.now) (C.Code.need code.now) received.now marks.now
-        message.old message.new scratch.old scratch.new result }
-{
-    match code.decode(received, marks, message, scratch) {
-        Ok(wrong) => Ok(wrong),
-        Err(fault) => Err(FileFault::Collector(CollectorFault::Code { fault, row: 0 })),
-    }
+    let code = FileCode::new(heading)?;
+    let wrong = code
+        .decode(received, marks, message, scratch)
+        .map_err(CollectorFault::from)?;
+    Ok(wrong)
 }

@@ -5,10 +5,7 @@ use crate::report::Report;
 use carrier::fault::CollectorFault;
 use file::fault::FileFault;
 use file::reader::read;
-use file::received::{Received, receive};
-
-// How many bytes a file may have.
-const LONGEST: usize = 65535;
+use file::received::{LONGEST, Received, receive};
 
 // Writes the sheet that a file carries at the buffer's start, rows one after another. Answers 0, or the refusal's number.
 #[unsafe(no_mangle)]
@@ -18,7 +15,7 @@ pub extern "C" fn carrier_read(file: &[u8], sheet: &mut [u16], report: &mut Repo
     match receive_within(file, sheet.len()) {
         Ok(received) => {
             let rows = received.rows();
-            sheet[0..rows.len()].copy_from_slice(rows);
+            sheet[..rows.len()].copy_from_slice(rows);
             *report = Report::found(&received);
             0
         }
@@ -35,7 +32,7 @@ fn receive_within(file: &[u8], room: usize) -> Result<Received, FileFault>
 {
     if file.len() <= LONGEST {
         let heading = read(file)?.heading();
-        if room < heading.depth as usize * heading.k as usize {
+        if room < heading.size() {
             return Err(FileFault::Collector(CollectorFault::SheetLength));
         }
     }

@@ -8,7 +8,7 @@ use file::received::Received;
 // How a file was received: its heading and how its strips fared, or the place and the row of the refusal. What is not
 // reported is 0.
 #[repr(C)]
-#[derive(Clone, Copy)]
+#[derive(Clone, Copy, PartialEq, Eq, Debug, Default)]
 pub struct Report {
     // 1 for a prime field, 2 for GF(256).
     pub kind: u8,
@@ -34,7 +34,7 @@ pub struct Report {
 
 // What a call counted, or the place of its refusal. What is not reported is 0.
 #[repr(C)]
-#[derive(Clone, Copy)]
+#[derive(Clone, Copy, PartialEq, Eq, Debug, Default)]
 pub struct Tally {
     // The length of the file written, or how many numbers of the word are wrong.
     pub count: usize,
@@ -57,8 +57,7 @@ impl Report {
             kept: received.kept,
             declined: received.declined,
             wrong: received.wrong,
-            place: 0,
-            row: 0,
+            ..Report::default()
         }
     }
 
@@ -67,16 +66,9 @@ impl Report {
         ensures { result ≡ lost fault }
     {
         Report {
-            kind: 0,
-            n: 0,
-            k: 0,
-            depth: 0,
-            modulus: 0,
-            kept: 0,
-            declined: 0,
-            wrong: 0,
             place: fault.place(),
             row: fault.row(),
+            ..Report::default()
         }
     }
 }
@@ -87,13 +79,16 @@ pub fn tell(outcome: Result<usize, FileFault>, tally: &mut Tally) -> u32
 {
     match outcome {
         Ok(count) => {
-            *tally = Tally { count, place: 0 };
+            *tally = Tally {
+                count,
+                ..Tally::default()
+            };
             0
         }
         Err(fault) => {
             *tally = Tally {
-                count: 0,
                 place: fault.place(),
+                ..Tally::default()
             };
             u32::from(fault.number())
         }

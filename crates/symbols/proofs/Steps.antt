@@ -1,7 +1,7 @@
 -- Powers, points and products of differences, a step further.
-use Rattle.std.proofs.Common.{◌≡◌, ℕ, suc, ◌+◌, ◌-◌, ◌<◌, ◌≤◌, List, [], ◌∷◌, ◌++◌, length, get_or, set, sym, refl, ap, ◌∙◌, inl, inr, eq-or-lt_of_le, arith, length-set, get_or-set_other, get_or-set_same}
+use Rattle.std.proofs.Common.{◌≡◌, ℕ, suc, ◌+◌, ◌-◌, ◌<◌, ◌≤◌, List, length, get_or, set, sym, ap, ◌∙◌, inl, inr, eq-or-lt_of_le, arith, length-set, get_or-set_other, get_or-set_same}
 use Rattle.fields.specs.Arithmetic.{Arithmetic}
-use Rattle.symbols.specs.Symbols.{power, differences}
+use Rattle.symbols.specs.Symbols.{power}
 
 pub power-more : (F : Arithmetic) (x i : ℕ) → F.times (power F x i) x ≡ power F x (i + 1)
 power-more F x i = let e : suc i ≡ i + 1 = omega arith in ap (power F x) e
@@ -18,7 +18,3 @@ points_more F g xs i j p e within is later k h below =
       | inl same ↦ ap (λ m. get_or (set xs i p) m 0) (sym same) ∙ get_or-set_same xs i p 0 (omega arith) ∙ is ∙ ap (power F g) (omega (arith, same, long))
       | inr more ↦ get_or-set_other xs i k p 0 (omega (arith, more)) ∙ later k (omega (arith, more)) (omega (arith, more, long)) ∙ ap (power F g) (omega (arith, long))
     ]
-
-pub differences-append : (F : Arithmetic) (c x : ℕ) (ys zs : List ℕ) → differences F (differences F c x ys) x zs ≡ differences F c x (ys ++ zs)
-differences-append F c x [] zs = refl
-differences-append F c x (y ∷ ys) zs = differences-append F (F.times c (F.plus x (F.opposite y))) x ys zs

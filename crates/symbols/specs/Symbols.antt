@@ -1,5 +1,6 @@
 -- The points and multipliers of a symbol's code, over any field.
-use Rattle.std.specs.Prelude.{◌≡◌, ℕ, zero, suc, ◌+◌, ◌-◌, ◌<◌, ◌≢◌, List, [], ◌∷◌, ◌++◌, length, take, drop, Some, None, Ok, Err, Option, slice_index}
+use Rattle.std.specs.Prelude.{◌≡◌, ℕ, zero, suc, ◌+◌, ◌-◌, ◌<◌, ◌≢◌, List, ◌++◌, length, take, drop, Some, None, Ok, Err, Option, slice_index}
+use Rattle.std.specs.List.{fold}
 use Rattle.fields.specs.Arithmetic.{Arithmetic, total, inverted}
 use Rattle.fields.specs.Checks.{Check}
 use Rattle.symbols.specs.declared.fault.SymbolFault.{SymbolFault}
@@ -16,8 +17,7 @@ Points F g xs = (j : ℕ) → j < length xs → slice_index xs j ≡ power F g (
 
 -- c times the differences x − y, for each y of the list
 abbrev pub differences : Arithmetic → (c x : ℕ) → List ℕ → ℕ
-differences F c x [] = c
-differences F c x (y ∷ ys) = differences F (F.times c (F.plus x (F.opposite y))) x ys
+differences F c x ys = fold (λ product y. F.times product (F.plus x (F.opposite y))) c ys
 
 -- x^b times the differences x − y, where x is point j and y is each of the points at the other places
 abbrev pub divisor : Arithmetic → (b : ℕ) (xs : List ℕ) (j : ℕ) → ℕ

@@ -1,7 +1,7 @@
 // The multipliers of a symbol, in any field.
 ghost use Rattle.std.specs.Prelude.{◌≡◌, ℕ, ◌<◌, length, None};
 ghost use Rattle.linear.specs.Operations.{operations};
-ghost use Rattle.symbols.specs.Symbols.{differences, divisor as divided-by, multiplier as multiplied-by, Lacking, Filled, Multiplied};
+ghost use Rattle.symbols.specs.Symbols.{divisor as divided-by, multiplier as multiplied-by, Lacking, Filled, Multiplied};
 
 use crate::fault::SymbolFault;
 use crate::powers::power;
@@ -30,12 +30,7 @@ pub fn write_multipliers<F: Field>(
 fn find_lacking<F: Field>(f: &F, b: u16, points: &[u16]) -> Option<usize>
     ensures { Lacking (F.Field.arithmetic f.now) b points.now result }
 {
-    for j in 0..points.len() {
-        if multiplier(f, b, points, j).is_none() {
-            return Some(j);
-        }
-    }
-    None
+    (0..points.len()).position(|j| multiplier(f, b, points, j).is_none())
 }
 
 // Writes each point's multiplier.
@@ -44,11 +39,11 @@ fn fill_multipliers<F: Field>(f: &F, b: u16, points: &[u16], multipliers: &mut [
     requires there { Lacking (F.Field.arithmetic f.now) b points.now None }
     ensures { Filled (F.Field.arithmetic f.now) b points.now multipliers.new }
 {
-    for j in 0..points.len() {
+    for (j, there) in multipliers.iter_mut().enumerate() {
         let Some(m) = multiplier(f, b, points, j) else {
             unreachable()
         };
-        multipliers[j] = m;
+        *there = m;
     }
 }
 
@@ -66,17 +61,10 @@ fn divisor<F: Field>(f: &F, b: u16, points: &[u16], j: usize) -> u16
     ensures { result ≡ divided-by (operations F.Field f.now) b points.now j }
 {
     let x = points[j];
-    let before = multiply_differences(f, power(f, x, b), x, &points[0..j]);
-    multiply_differences(f, before, x, &points[j + 1..])
-}
-
-// c times the differences x - y, for each y of the list.
-fn multiply_differences<F: Field>(f: &F, c: u16, x: u16, ys: &[u16]) -> u16
-    ensures { result ≡ differences (operations F.Field f.now) c x ys.now }
-{
-    let mut product = c;
-    for y in ys {
-        product = f.multiply(product, f.add(x, f.negate(*y)));
-    }
-    product
+    points[..j]
+        .iter()
+        .chain(&points[j + 1..])
+        .fold(power(f, x, b), |product, y| {
+            f.multiply(product, f.add(x, f.negate(*y)))
+        })
 }

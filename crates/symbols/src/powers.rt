@@ -10,7 +10,7 @@ pub fn power<F: Field>(f: &F, x: u16, exponent: u16) -> u16
     ensures { result ≡ powered (operations F.Field f.now) x exponent }
 {
     let mut p = 1;
-    for _i in 0..exponent {
+    for _ in 0..exponent {
         p = f.multiply(p, x);
     }
     p
@@ -21,6 +21,7 @@ pub fn write_points<F: Field>(f: &F, g: u16, points: &mut [u16])
     ensures { Points (operations F.Field f.now) g points.new }
 {
     let mut p = 1;
+    // The points are written by place: of what is written through `iter_mut().rev()` a proof knows nothing afterwards.
     for j in (0..points.len()).rev() {
         points[j] = p;
         p = f.multiply(p, g);

@@ -11,7 +11,7 @@ use crate::reader::{Reader, read};
 use crate::source::{Outcome, StripSource, collect};
 
 // How many bytes a file may have that is received whole.
-const LONGEST: usize = 65535;
+pub const LONGEST: usize = 65535;
 
 // The sheet that the strips of a file of at most 65,535 bytes carry.
 pub fn receive(file: &[u8]) -> Result<Received, FileFault>
@@ -49,11 +49,5 @@ fn collect_from(
 {
     let heading = reader.heading();
     let code = FileCode::new(&heading)?;
-    Ok(collect(
-        code,
-        usize::from(heading.depth),
-        reader,
-        sheet,
-        scratch,
-    ))
+    Ok(collect(code, usize::from(heading.depth), reader, sheet, scratch))
 }

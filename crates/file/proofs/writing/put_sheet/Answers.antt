@@ -1,4 +1,4 @@
-use Rattle.std.proofs.Common.{◌≡◌, ◌+◌, ◌*◌, ◌≤◌, length, get_or, ap, ◌∙◌, mul-le-mul, rules}
+use Rattle.std.proofs.Common.{◌+◌, ◌*◌, ◌≤◌, get_or, ap, ◌∙◌, mul-le-mul, rules}
 use Rattle.carrier.proofs.Records.{fits}
 use Rattle.file.specs.Form.{strips_bytes}
 use Rattle.file.specs.Writes.{strips_by, entry_by}

@@ -1,4 +1,4 @@
-use Rattle.std.proofs.Common.{◌≡◌, ℕ, ◌<◌, length, get_or, take, None, sym, ap, ◌∙◌, arith, take_all, length-set}
+use Rattle.std.proofs.Common.{◌≡◌, ℕ, ◌<◌, length, get_or, None, sym, ap, ◌∙◌, arith, take_all, length-set}
 use Rattle.carrier.specs.Sheets.{entry, mark, received, marks}
 use Rattle.carrier.proofs.Records.{map-step}
 use Rattle.carrier.proofs.table.Table.column.Goals as goal

@@ -2,34 +2,30 @@ use Rattle.std.proofs.Common.{◌≡◌, ℕ, ◌+◌, ◌*◌, ◌/◌, ◌%◌
 use Rattle.std.specs.List.{range_with_len, flat_map}
 use Rattle.std.proofs.lemmas.List.{take_all, take_more_set}
 use Rattle.file.specs.Form.{two}
-use Rattle.file.proofs.Putting.{index_within, strip-more}
-use Rattle.file.proofs.writing.put_strip.Goals as goal
+use Rattle.file.proofs.Putting.{strip-more}
+use Rattle.file.proofs.writing.Words.put_strip.Goals as goal
 
 pub loop-row-init : goal.loop-row-init
 loop-row-init c =
     let l : 0 < length c.args.output.now = omega (arith, c.requires.output) in
     take_more_set c.args.output.now 0 c.args.place l
 
-pub bounds-words-row : goal.bounds-words-row
-bounds-words-row c = omega (arith, c.requires.words, index_within c.loop-row.row c.args.depth c.args.n c.args.place c.loop-row-test.true c.requires.within)
-
 pub loop-row-preserved : goal.loop-row-preserved
 loop-row-preserved c =
     let k = c.loop-row.auto.output in
     let at = c.loop-row.row in
-    let x = get_or c.args.words.now (at * c.args.n + c.args.place) 0 in
-    let small = (c.type_inv.words (at * c.args.n + c.args.place)).fits in
+    let x = get_or c.args.self.now.numbers.now (at * c.args.self.now.long + c.args.place) 0 in
     let bytes = c.to_be_bytes.ensures in
     let high : get_or c.to_be_bytes.result 0 0 ≡ x / 256 = ap (λ (b : List ℕ). get_or b 0 0) bytes ∙ (let z : x / 256 % 256 ≡ x / 256 = omega arith in z) in
     let low : get_or c.to_be_bytes.result 1 0 ≡ x % 256 = ap (λ (b : List ℕ). get_or b 1 0) bytes in
     let room : 1 + 2 * (at + 1) ≤ length c.loop-row.output = omega (arith, c.requires.output, length-set c.args.output.now 0 c.args.place) in
-    rw (high, low) (strip-more c.loop-row.output c.args.place at (λ r. get_or c.args.words.now (r * c.args.n + c.args.place) 0) room c.loop-row.invariant)
+    rw (high, low) (strip-more c.loop-row.output c.args.place at (λ r. get_or c.args.self.now.numbers.now (r * c.args.self.now.long + c.args.place) 0) room c.loop-row.invariant)
 
 pub returns : goal.returns
 returns c =
     let k = c.loop-row.auto.output in
-    let e : c.loop-row.row ≡ c.args.depth = omega arith in
+    let e : c.loop-row.row ≡ c.args.self.now.depth = omega arith in
     let l : length c.loop-row.output ≤ 1 + 2 * c.loop-row.row = omega (arith, c.requires.output, length-set c.args.output.now 0 c.args.place) in
     sym (take_all (1 + 2 * c.loop-row.row) c.loop-row.output l)
     ∙ c.loop-row.invariant
-    ∙ ap (λ n. c.args.place ∷ flat_map two (map (λ r. get_or c.args.words.now (r * c.args.n + c.args.place) 0) (range_with_len 0 n))) e
+    ∙ ap (λ n. c.args.place ∷ flat_map two (map (λ r. get_or c.args.self.now.numbers.now (r * c.args.self.now.long + c.args.place) 0) (range_with_len 0 n))) e
