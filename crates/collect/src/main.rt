@@ -16,7 +16,7 @@ use answers::Bench;
 use lines::{Line, parse_line};
 use std::alloc::{AllocError, Global};
 use std::io;
-use texts::fault::LineFault;
+use texts::fault::understood;
 
 mod answers;
 mod lines;
@@ -26,12 +26,8 @@ mod settings;
 // The lines of the text, each understood or not.
 fn parse_lines(heap: Global, text: &str) -> Result<Vec<Line>, AllocError> {
     let mut parsed = Vec::new(heap);
-    for text in text.lines() {
-        parsed.push(match parse_line(heap, text) {
-            Ok(line) => line,
-            Err(LineFault::Unknown) => Line::Unknown,
-            Err(LineFault::Memory) => return Err(AllocError),
-        })?;
+    for line in text.lines() {
+        parsed.push(understood(parse_line(heap, line))?.unwrap_or(Line::Unknown))?;
     }
     Ok(parsed)
 }

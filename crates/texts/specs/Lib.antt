@@ -1,3 +1,4 @@
 pub mod Lone
 pub mod Words
 pub mod Spaced
+pub mod Understood

@@ -1,5 +1,6 @@
 // Why a line is not read.
 ghost use Rattle.std.specs.Prelude.{◌≡◌};
+ghost use Rattle.texts.specs.Understood.{understood_of};
 ghost use Rattle.texts.specs.declared.fault.LineFault.TheVariants.{Unknown, Memory};
 
 use std::alloc::{AllocError, AllocFailed};
@@ -37,5 +38,16 @@ impl From<ParseIntError> for LineFault {
 
     fn from(_error: ParseIntError) -> LineFault {
         LineFault::Unknown
+    }
+}
+
+// What was read, or nothing where it is not understood.
+pub fn understood<T>(read: Result<T, LineFault>) -> Result<Option<T>, AllocError>
+    ensures { result ≡ understood_of read }
+{
+    match read {
+        Ok(value) => Ok(Some(value)),
+        Err(LineFault::Unknown) => Ok(None),
+        Err(LineFault::Memory) => Err(AllocError),
     }
 }

@@ -1,26 +1,18 @@
--- The places in which the fronts of two lists differ.
-use Rattle.std.proofs.Common.{◌≡◌, ℕ, zero, suc, ◌+◌, ◌<◌, ◌≤◌, min, cond, eqb, List, [], ◌∷◌, length, get_or, take, refl, ap, ◌∙◌, ap₂, arith}
+-- The places in which two lists differ.
+use Rattle.std.proofs.Common.{◌≡◌, ℕ, ◌+◌, true, false, cond, not, eqb, ◌==◌, List, [], ◌∷◌, length, refl, sym, ap, ◌∙◌, ap₂, arith}
+use Rattle.std.specs.List.{count_by, zip}
+use Rattle.std.proofs.lemmas.List.Sums.{sum_by-cons}
 use Rattle.std.proofs.lemmas.Bool.Decides.{nat_tests}
 use Rattle.fields.specs.Numbers.{differ}
 
-differ-suc : (i : ℕ) (xs ys : List ℕ) → i < length xs → i < length ys → differ (take (suc i) xs) (take (suc i) ys) ≡ differ (take i xs) (take i ys) + cond (eqb (get_or xs i 0) (get_or ys i 0)) 0 1
-differ-suc i [] ys h k = absurd (omega arith)
-differ-suc i (x ∷ xs) [] h k = absurd (omega arith)
-differ-suc zero (x ∷ xs) (y ∷ ys) h k = omega arith
-differ-suc (suc i) (x ∷ xs) (y ∷ ys) h k = omega (arith, differ-suc i xs ys (omega arith) (omega arith))
+counts : (x y n : ℕ) → cond {A = ℕ} (x == y) 0 1 + n ≡ cond {A = ℕ} (not (x == y)) 1 0 + n
+counts x y n = elim (x == y) as (λ b. cond {A = ℕ} b 0 1 + n ≡ cond {A = ℕ} (not b) 1 0 + n) [ true ↦ refl | false ↦ refl ]
 
--- one place more
-pub differ-more : (i : ℕ) (xs ys : List ℕ) → i < length xs → i < length ys → differ (take (i + 1) xs) (take (i + 1) ys) ≡ differ (take i xs) (take i ys) + cond (eqb (get_or xs i 0) (get_or ys i 0)) 0 1
-differ-more i xs ys h k = let e : i + 1 ≡ suc i = omega arith in ap (λ n. differ (take n xs) (take n ys)) e ∙ differ-suc i xs ys h k
-
--- all places of the shorter list
-pub differ-all : (n : ℕ) (xs ys : List ℕ) → min (length xs) (length ys) ≤ n → differ (take n xs) (take n ys) ≡ differ xs ys
-differ-all zero [] ys h = refl
-differ-all zero (x ∷ xs) [] h = refl
-differ-all zero (x ∷ xs) (y ∷ ys) h = absurd (omega arith)
-differ-all (suc n) [] ys h = refl
-differ-all (suc n) (x ∷ xs) [] h = refl
-differ-all (suc n) (x ∷ xs) (y ∷ ys) h = ap (λ m. cond (eqb x y) 0 1 + m) (differ-all n xs ys (omega arith))
+-- as a count of the pairs whose numbers differ
+pub differ_as_count : (xs ys : List ℕ) → differ xs ys ≡ count_by (λ (p : ℕ × ℕ). not (p.0 == p.1)) (zip xs ys)
+differ_as_count [] ys = refl
+differ_as_count (x ∷ xs) [] = refl
+differ_as_count (x ∷ xs) (y ∷ ys) = ap (λ n. cond (x == y) 0 1 + n) (differ_as_count xs ys) ∙ counts x y _ ∙ sym (sum_by-cons (λ (p : ℕ × ℕ). cond {A = ℕ} (not (p.0 == p.1)) 1 0) (x, y) (zip xs ys))
 
 alike : (x y : ℕ) → cond {A = ℕ} (eqb x y) 0 1 ≡ 0 → x ≡ y
 alike x y e = grind (arith, nat_tests)

@@ -1,5 +1,5 @@
 -- What stands for a number that may be missing.
-use Rattle.std.specs.Prelude.{ℕ, List, [], ◌∷◌, Some, None, Option}
+use Rattle.std.specs.Prelude.{ℕ, Some, None, Option}
 
 -- the number, or one that no code looks at
 abbrev pub number : Option ℕ → ℕ
@@ -10,9 +10,3 @@ number None = 65535
 abbrev pub mark : Option ℕ → ℕ
 mark (Some x) = 0
 mark None = 1
-
--- the number of a list that has just one
-abbrev pub lone : List ℕ → Option ℕ
-lone [] = None
-lone (x ∷ []) = Some x
-lone (x ∷ y ∷ ys) = None

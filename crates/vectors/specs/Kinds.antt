@@ -1,7 +1,14 @@
--- The check roots of each kind of symbol: the powers of a base, from a first exponent on.
+-- The field of each kind of symbol, and its check roots: the powers of a base, from a first exponent on.
 use Rattle.std.specs.Prelude.{ℕ}
+use Rattle.fields.specs.Arithmetic.{Arithmetic}
+use Rattle.fields.specs.Binary.{bytes}
+use Rattle.fields.specs.Primes.{residues}
 use Rattle.vectors.specs.declared.symbol.Kind.{Kind}
 use Rattle.vectors.specs.declared.symbol.Kind.TheVariants.{Qr, Pdf417}
+
+abbrev pub arithmetic_of : Kind → Arithmetic
+arithmetic_of Qr = bytes
+arithmetic_of Pdf417 = residues 929
 
 abbrev pub base : Kind → ℕ
 base Qr = 2

@@ -3,3 +3,4 @@ pub mod Kinds
 pub mod Answers
 pub mod Rows
 pub mod Decodings
+pub mod Sums

@@ -5,61 +5,57 @@ ghost use Rattle.vectors.specs.Decodings.{Gives};
 
 use crate::entries::{marks_of, numbers_of};
 use crate::questions::{Answer, CodeQuestion, FieldQuestion, FileQuestion, Question};
-use crate::settings::{FieldChoice, Settings};
+use crate::settings::Settings;
 use crate::tally::Tally;
 use carrier::collector::Collector;
-use codes::fault::CodeFault;
+use carrier::fault::CollectorFault;
+use codes::fault::{CodeFault, FitnessFault};
 use codes::interface::{Code, Issuer};
 use evaluation::Evaluation;
+use fields::any::AnyField;
+use fields::fault::FieldFault;
 use fields::field::Field;
-use fields::gf256::Gf256;
 use fields::prime::Prime;
 use file::received::{Received, receive};
 use layers::{Scaled, Trimmed};
 use repetition::Repetition;
 use std::alloc::{AllocError, Global};
 use symbols::power;
+use texts::fault::LineFault;
 
 mod blocks;
 
-// Asks the library, and compares; nothing where what the question is about is not set.
-pub fn ask(
-    heap: Global,
-    settings: &Settings,
-    question: &Question,
-) -> Result<Option<Tally>, AllocError> {
+// Asks the library, and compares; what the question is about has to be set.
+pub fn ask(heap: Global, settings: &Settings, question: &Question) -> Result<Tally, LineFault> {
     match question {
-        Question::Modulus { modulus, expected } => Ok(Some(ask_modulus(*modulus, expected))),
-        Question::File(question) => match &settings.file {
-            Some(bytes) => Ok(Some(ask_file(heap, bytes, question)?)),
-            None => Ok(None),
-        },
+        Question::Modulus { modulus, expected } => Ok(ask_modulus(*modulus, expected)),
+        Question::File(question) => {
+            let Some(bytes) = &settings.file else {
+                return Err(LineFault::Unknown);
+            };
+            Ok(ask_file(heap, bytes, question)?)
+        }
         Question::Received(received) => blocks::ask_symbol(heap, settings, received),
-        Question::Field(question) => match settings.field {
-            Some(FieldChoice::Bytes) => Ok(Some(ask_field(heap, &Gf256::new(), question)?)),
-            Some(FieldChoice::Prime(modulus)) => match Prime::new(modulus) {
-                Ok(field) => Ok(Some(ask_field(heap, &field, question)?)),
-                Err(_) => Ok(None),
-            },
-            None => Ok(None),
-        },
-        Question::Code(question) => match settings.field {
-            Some(FieldChoice::Bytes) => with_field(heap, Gf256::new(), settings, question),
-            Some(FieldChoice::Prime(modulus)) => match Prime::new(modulus) {
-                Ok(field) => with_field(heap, field, settings, question),
-                Err(_) => Ok(None),
-            },
-            None => Ok(None),
-        },
+        Question::Field(question) => {
+            let field = settings.field.ok_or(LineFault::Unknown)?;
+            Ok(ask_field(heap, &field, question)?)
+        }
+        Question::Code(question) => {
+            let field = settings.field.ok_or(LineFault::Unknown)?;
+            let asking = Asking {
+                heap,
+                settings,
+                question,
+            };
+            asking.with_field(field)
+        }
     }
 }
 
 // Makes the prime field of a modulus.
 fn ask_modulus(modulus: u16, expected: &Answer) -> Tally {
-    match Prime::new(modulus) {
-        Ok(_) => compare(expected, &Answer::Accepted),
-        Err(fault) => compare(expected, &Answer::Refused(fault.number())),
-    }
+    let made = Prime::new(modulus).map(|_| ());
+    compare(expected, &Answer::from(made.map_err(FieldFault::number)))
 }
 
 // Calculates in a field.
@@ -87,99 +83,79 @@ fn powers_of<F: Field>(
     of: u16,
     count: usize,
 ) -> Result<Vec<u16>, AllocError> {
-    let mut powers = Vec::new(heap);
-    for i in 0..u16::try_from(count).unwrap_or(u16::MAX) {
-        powers.push(power(field, of, i))?;
-    }
-    Ok(powers)
+    (0..u16::try_from(count).unwrap_or(u16::MAX))
+        .map(|i| power(field, of, i))
+        .collect(heap)
 }
 
 // Compares the inverses of 0, 1, 2 and so on.
 fn compare_inverses<F: Field>(field: &F, expected: &[Option<u16>]) -> Tally {
-    let mut tally = Tally::none();
+    let mut tally = Tally::default();
     for (i, inverse) in expected.iter().enumerate() {
         let number = u16::try_from(i).unwrap_or(u16::MAX);
-        tally = tally.plus(Tally::of(field.inverse(number) == *inverse));
+        tally = tally + Tally::of(field.inverse(number) == *inverse);
     }
     tally
 }
 
-// Goes on with the code that is set over a field.
-fn with_field<F: Field + Copy>(
+// A question about a code, with what its block has set.
+#[derive(Clone, Copy)]
+struct Asking<'a> {
     heap: Global,
-    field: F,
-    settings: &Settings,
-    question: &CodeQuestion,
-) -> Result<Option<Tally>, AllocError> {
-    if let Some(length) = settings.repetition {
-        let code = Repetition::new(field.order(), length as usize);
-        return Ok(Some(with_code(heap, field, code, settings, question)?));
-    }
-    match (&settings.points, settings.dimension) {
-        (Some(points), Some(k)) => {
-            let n = u16::try_from(points.len()).unwrap_or(u16::MAX);
-            let code = Evaluation::new(field, n, k, points.as_slice());
-            Ok(Some(with_code(heap, field, code, settings, question)?))
+    settings: &'a Settings,
+    question: &'a CodeQuestion,
+}
+
+impl Asking<'_> {
+    // Goes on with the code that is set over a field.
+    fn with_field(&self, field: AnyField) -> Result<Tally, LineFault> {
+        if let Some(length) = self.settings.repetition {
+            let code = Repetition::new(field.order(), usize::from(length));
+            return Ok(self.with_code(field, code)?);
         }
-        _ => Ok(None),
+        let (Some(points), Some(k)) = (&self.settings.points, self.settings.dimension) else {
+            return Err(LineFault::Unknown);
+        };
+        let n = u16::try_from(points.len()).unwrap_or(u16::MAX);
+        let code = Evaluation::new(field, n, k, points.as_slice());
+        Ok(self.with_code(field, code)?)
     }
-}
 
-// Goes on with the multipliers, if any are set.
-fn with_code<F: Field + Copy, C: Code + Drop>(
-    heap: Global,
-    field: F,
-    code: C,
-    settings: &Settings,
-    question: &CodeQuestion,
-) -> Result<Tally, AllocError> {
-    match &settings.multipliers {
-        Some(multipliers) => with_scaled(
-            heap,
-            Scaled::new(field, multipliers.as_slice(), code),
-            settings,
-            question,
-        ),
-        None => with_scaled(heap, code, settings, question),
+    // Goes on with the multipliers, if any are set.
+    fn with_code<C: Code + Drop>(&self, field: AnyField, code: C) -> Result<Tally, AllocError> {
+        match &self.settings.multipliers {
+            Some(multipliers) => self.with_scaled(Scaled::new(field, multipliers.as_slice(), code)),
+            None => self.with_scaled(code),
+        }
     }
-}
 
-// Goes on with what is trimmed, if anything is.
-fn with_scaled<C: Code + Drop>(
-    heap: Global,
-    code: C,
-    settings: &Settings,
-    question: &CodeQuestion,
-) -> Result<Tally, AllocError> {
-    match settings.trimmed {
-        Some(count) => ask_code(heap, Trimmed::new(code, count as usize), question),
-        None => ask_code(heap, code, question),
+    // Goes on with what is trimmed, if anything is.
+    fn with_scaled<C: Code + Drop>(&self, code: C) -> Result<Tally, AllocError> {
+        match self.settings.trimmed {
+            Some(count) => self.with_layers(Trimmed::new(code, usize::from(count))),
+            None => self.with_layers(code),
+        }
     }
-}
 
-// Asks a code.
-fn ask_code<C: Code + Drop>(
-    heap: Global,
-    code: C,
-    question: &CodeQuestion,
-) -> Result<Tally, AllocError> {
-    match question {
-        CodeQuestion::Fitness(expected) => match code.fitness() {
-            Ok(()) => Ok(compare(expected, &Answer::Accepted)),
-            Err(fault) => Ok(compare(expected, &Answer::Refused(fault.number()))),
-        },
-        CodeQuestion::Depth { depth, expected } => {
-            match Collector::new(code, *depth as usize).fitness() {
-                Ok(()) => Ok(compare(expected, &Answer::Accepted)),
-                Err(fault) => Ok(compare(expected, &Answer::Refused(fault.number()))),
+    // Asks the code.
+    fn with_layers<C: Code + Drop>(&self, code: C) -> Result<Tally, AllocError> {
+        match self.question {
+            CodeQuestion::Fitness(expected) => {
+                let fitness = code.fitness().map_err(FitnessFault::number);
+                Ok(compare(expected, &Answer::from(fitness)))
             }
-        }
-        CodeQuestion::Word { message, expected } => match issue(heap, &code, message)? {
-            Ok(word) => Ok(Tally::of_numbers(expected, &word)),
-            Err(_) => Ok(Tally::of(false)),
-        },
-        CodeQuestion::Decode { received, expected } => {
-            Ok(compare(expected, &decode(heap, &code, received)?))
+            CodeQuestion::Depth { depth, expected } => {
+                let collector = Collector::new(code, usize::from(*depth));
+                let fitness = collector.fitness().map_err(CollectorFault::number);
+                Ok(compare(expected, &Answer::from(fitness)))
+            }
+            CodeQuestion::Word { message, expected } => match issue(self.heap, &code, message)? {
+                Ok(word) => Ok(Tally::of_numbers(expected, &word)),
+                Err(_) => Ok(Tally::of(false)),
+            },
+            CodeQuestion::Decode { received, expected } => {
+                Ok(compare(expected, &decode(self.heap, &code, received)?))
+            }
         }
     }
 }
@@ -193,10 +169,7 @@ fn issue<C: Code>(
     ensures { IfOk result (λ q. IfOk q (λ w. w.items ≡ (C.Issuer.meaning code.now).word message.now)) }
 {
     let mut word = vec![in heap; 0u16; code.length()]?;
-    match code.issue(message, &mut word) {
-        Ok(()) => Ok(Ok(word)),
-        Err(fault) => Ok(Err(fault)),
-    }
+    Ok(code.issue(message, &mut word).map(|_| word))
 }
 
 // What a code makes of received numbers, with a buffer and a scratch of the right lengths.
@@ -225,8 +198,8 @@ fn ask_file(heap: Global, bytes: &[u8], question: &FileQuestion) -> Result<Tally
             wrong,
         } => Ok(
             Tally::of(received.kept == *kept)
-                .plus(Tally::of(received.declined == *declined))
-                .plus(Tally::of(received.wrong == *wrong)),
+                + Tally::of(received.declined == *declined)
+                + Tally::of(received.wrong == *wrong),
         ),
         FileQuestion::Row { row, expected } => {
             let numbers = row_of(heap, &received, *row)?;
@@ -237,11 +210,9 @@ fn ask_file(heap: Global, bytes: &[u8], question: &FileQuestion) -> Result<Tally
 
 // The numbers of a row of the sheet.
 fn row_of(heap: Global, received: &Received, row: u8) -> Result<Vec<u16>, AllocError> {
-    let mut numbers = Vec::new(heap);
-    for place in 0..received.heading.k {
-        numbers.push(received.number(row, place))?;
-    }
-    Ok(numbers)
+    (0..received.heading.k)
+        .map(|place| received.number(row, place))
+        .collect(heap)
 }
 
 // Compares two answers: a refusal by its number, a message by its numbers and its wrong count. Where nothing differs, both
@@ -261,7 +232,7 @@ fn compare(expected: &Answer, got: &Answer) -> Tally
                 message: b,
                 wrong: f,
             },
-        ) => Tally::of_numbers(a, b).plus(Tally::of(*e == *f)),
+        ) => Tally::of_numbers(a, b) + Tally::of(*e == *f),
         _ => Tally::of(false),
     }
 }

@@ -3,15 +3,16 @@ ghost use Rattle.std.specs.Prelude.{◌≡◌, ℕ, ◌<◌};
 ghost use Rattle.vectors.specs.Rows.{Counted, Ended};
 
 use crate::answers::ask;
-use crate::lines::Line;
+use crate::lines::{Line, parse_line};
 use crate::settings::Settings;
 use crate::tally::Tally;
-use std::alloc::Global;
 use std::io;
+use texts::fault::understood;
 
 // The block that is read, the row that it belongs to, and what was compared so far.
 #[derive(Drop)]
-pub struct Bench {
+pub struct Bench<'a> {
+    rt: &'a HostRuntime,
     settings: Settings,
     source: String,
     title: String,
@@ -19,72 +20,78 @@ pub struct Bench {
     total: Tally,
 }
 
-impl Bench {
+impl<'a> Bench<'a> {
     // Nothing is read yet.
-    pub fn new(heap: Global) -> Bench {
+    pub fn new(rt: &'a HostRuntime) -> Bench<'a> {
         Bench {
-            settings: Settings::none(),
-            source: String::new(heap),
-            title: String::new(heap),
-            row: Tally::none(),
-            total: Tally::none(),
+            rt,
+            settings: Settings::default(),
+            source: String::new(rt.alloc()),
+            title: String::new(rt.alloc()),
+            row: Tally::default(),
+            total: Tally::default(),
         }
     }
 
     // Prints the head of the table.
-    pub fn begin(&self, rt: &HostRuntime) -> io::Result<()> {
-        println!(rt; "compared  verdict  what                                           against")
+    pub fn begin(&self) -> io::Result<()> {
+        println!(self.rt;
+            "compared  verdict  what                                           against"
+        )
     }
 
     // Takes one more line.
-    pub fn take(&mut self, rt: &HostRuntime, at: usize, line: Line) -> io::Result<()> {
+    pub fn take(&mut self, at: usize, text: &str) -> io::Result<()> {
+        let heap = self.rt.alloc();
+        let Some(line) = understood(parse_line(heap, text))? else {
+            return self.count(at, None);
+        };
         match line {
-            Line::Blank => self.settings = Settings::none(),
+            Line::Blank => self.settings = Settings::default(),
             Line::Comment => {}
             Line::Against(source) => {
-                self.end_row(rt)?;
+                self.end_row()?;
                 self.source = source;
             }
             Line::Group(title) => {
-                self.end_row(rt)?;
+                self.end_row()?;
                 self.title = title;
             }
             Line::Symbol(title, symbol) => {
-                self.end_row(rt)?;
+                self.end_row()?;
                 self.title = title;
-                self.settings = Settings::none();
+                self.settings = Settings::default();
                 self.settings.symbol = Some(symbol);
             }
             Line::Setting(setting) => self.settings.set(setting),
             Line::Question(question) => {
-                let tally = ask(rt.alloc(), &self.settings, &question)?;
-                self.count(rt, at, tally)?;
+                let tally = understood(ask(heap, &self.settings, &question))?;
+                self.count(at, tally)?;
             }
-            Line::Unknown => self.count(rt, at, None)?,
         }
         Ok(())
     }
 
     // Counts what a line compared; one that could not be asked, or compared nothing, differs.
-    fn count(&mut self, rt: &HostRuntime, at: usize, tally: Option<Tally>) -> io::Result<()>
+    fn count(&mut self, at: usize, tally: Option<Tally>) -> io::Result<()>
         ensures { Counted self.old.row tally self.new.row result }
     {
         let tally = match tally {
             Some(tally) if tally.compared > 0 => tally,
             _ => {
-                println!(rt; "line {at} is not understood")?;
+                println!(self.rt; "line {at} is not understood")?;
                 Tally::of(false)
             }
         };
         if tally.differing > 0 {
-            println!(rt; "line {at} DIFFERS")?;
+            println!(self.rt; "line {at} DIFFERS")?;
         }
-        self.row = self.row.plus(tally);
+        self.row = self.row + tally;
         Ok(())
     }
 
     // Prints the row that ends here, if one was begun; a row that compares nothing differs.
-    fn end_row(&mut self, rt: &HostRuntime) -> io::Result<()>
+    fn end_row(&mut self) -> io::Result<()>
         ensures { Ended self.old.row self.old.total self.new.total result }
     {
         if self.row.compared == 0 {
@@ -94,25 +101,21 @@ impl Bench {
             self.row = Tally::of(false);
         }
         let compared = self.row.compared;
-        let verdict = if self.row.differing == 0 {
-            "agrees"
-        } else {
-            "DIFFERS"
-        };
+        let verdict = self.row.verdict();
         let title = self.title.as_str();
         let source = self.source.as_str();
-        println!(rt; "{compared:>8}  {verdict:<7}  {title:<45}  {source}")?;
-        self.total = self.total.plus(self.row);
-        self.row = Tally::none();
+        println!(self.rt; "{compared:>8}  {verdict:<7}  {title:<45}  {source}")?;
+        self.total = self.total + self.row;
+        self.row = Tally::default();
         self.title.clear();
         Ok(())
     }
 
     // Prints the last row, and how much was compared and differs.
-    pub fn finish(&mut self, rt: &HostRuntime) -> io::Result<()> {
-        self.end_row(rt)?;
+    pub fn finish(&mut self) -> io::Result<()> {
+        self.end_row()?;
         let compared = self.total.compared;
         let differing = self.total.differing;
-        println!(rt; "{compared} compared, {differing} differ")
+        println!(self.rt; "{compared} compared, {differing} differ")
     }
 }

@@ -1,16 +1,15 @@
 // What a line of input says.
 use crate::questions::Question;
 use crate::settings::Setting;
-use crate::symbol::{Kind, Symbol};
+use crate::symbol::Symbol;
 use questions::{parse_plain_question, parse_question};
 use settings::parse_setting;
 use std::alloc::{AllocError, Global};
-use std::str::SplitWhitespace;
-use words::{end, number};
+use texts::fault::LineFault;
+use texts::words::Words;
 
 mod questions;
 mod settings;
-mod words;
 
 #[derive(Drop)]
 pub enum Line {
@@ -25,13 +24,11 @@ pub enum Line {
     Symbol(String, Symbol),
     Setting(Setting),
     Question(Question),
-    // It is not understood.
-    Unknown,
 }
 
-// What the line says; one that is not understood is `Unknown`.
-pub fn parse_line(heap: Global, text: &str) -> Result<Line, AllocError> {
-    let mut words = text.split_whitespace();
+// What the line says.
+pub fn parse_line(heap: Global, text: &str) -> Result<Line, LineFault> {
+    let mut words = Words::of(text);
     let Some(first) = words.next() else {
         return Ok(Line::Blank);
     };
@@ -41,10 +38,10 @@ pub fn parse_line(heap: Global, text: &str) -> Result<Line, AllocError> {
     match first {
         "against" => Ok(Line::Against(rest_of(heap, text)?)),
         "group" => Ok(Line::Group(rest_of(heap, text)?)),
-        "symbol" => match parse_symbol(words) {
-            Some(symbol) => Ok(Line::Symbol(String::from_str(heap, text)?, symbol)),
-            None => Ok(Line::Unknown),
-        },
+        "symbol" => {
+            let symbol = parse_symbol(words)?;
+            Ok(Line::Symbol(String::from_str(heap, text)?, symbol))
+        }
         _ => parse_example(heap, first, text, words),
     }
 }
@@ -53,28 +50,20 @@ pub fn parse_line(heap: Global, text: &str) -> Result<Line, AllocError> {
 fn rest_of(heap: Global, text: &str) -> Result<String, AllocError> {
     match text.trim().split_once(' ') {
         Some((_, rest)) => String::from_str(heap, rest),
-        None => String::from_str(heap, ""),
+        None => Ok(String::new(heap)),
     }
 }
 
 // A symbol: its number, its kind, its check numbers and its wrong numbers.
-fn parse_symbol(mut words: SplitWhitespace<'_>) -> Option<Symbol> {
-    number(words.next())?;
-    let kind = match words.next()? {
-        "qr" => Kind::Qr,
-        "pdf417" => Kind::Pdf417,
-        _ => return None,
-    };
-    if words.next() != Some("checks") {
-        return None;
-    }
-    let checks = number(words.next())?;
-    if words.next() != Some("wrong") {
-        return None;
-    }
-    let wrong = number(words.next())?;
-    end(words)?;
-    Some(Symbol {
+fn parse_symbol(mut words: Words<'_>) -> Result<Symbol, LineFault> {
+    let _number = words.number::<u16>()?;
+    let kind = words.word()?.parse()?;
+    words.expect("checks")?;
+    let checks = words.number()?;
+    words.expect("wrong")?;
+    let wrong = words.number()?;
+    words.end()?;
+    Ok(Symbol {
         kind,
         checks,
         wrong,
@@ -86,27 +75,16 @@ fn parse_example(
     heap: Global,
     first: &str,
     text: &str,
-    words: SplitWhitespace<'_>,
-) -> Result<Line, AllocError> {
-    let question = match text.split_once('=') {
-        Some((asked, expected)) => parse_question(
-            heap,
-            first,
-            asked.split_whitespace(),
-            expected.split_whitespace(),
-        )?,
-        None => match first {
-            "received" | "kept" | "row" => parse_plain_question(heap, first, words)?,
-            _ => {
-                return match parse_setting(heap, first, words)? {
-                    Some(setting) => Ok(Line::Setting(setting)),
-                    None => Ok(Line::Unknown),
-                };
-            }
-        },
-    };
-    match question {
-        Some(question) => Ok(Line::Question(question)),
-        None => Ok(Line::Unknown),
+    words: Words<'_>,
+) -> Result<Line, LineFault> {
+    if let Some((asked, expected)) = text.split_once('=') {
+        let question = parse_question(heap, first, Words::of(asked), Words::of(expected))?;
+        return Ok(Line::Question(question));
+    }
+    match first {
+        "received" | "kept" | "row" => {
+            Ok(Line::Question(parse_plain_question(heap, first, words)?))
+        }
+        _ => Ok(Line::Setting(parse_setting(heap, first, words)?)),
     }
 }

@@ -28,7 +28,6 @@
 #![tactic(auto)]
 
 use bench::Bench;
-use lines::parse_line;
 use std::io;
 
 mod answers;
@@ -41,14 +40,12 @@ mod symbol;
 mod tally;
 
 fn main(rt: HostRuntime) -> anyhow::Result<()> {
-    let heap = rt.alloc();
-    let text = io::read_to_string(heap, rt.stdin())?;
-    let mut bench = Bench::new(heap);
-    bench.begin(&rt)?;
+    let text = io::read_to_string(rt.alloc(), rt.stdin())?;
+    let mut bench = Bench::new(&rt);
+    bench.begin()?;
     for (i, line) in text.as_str().lines().enumerate() {
-        let parsed = parse_line(heap, line)?;
-        bench.take(&rt, i.saturating_add(1), parsed)?;
+        bench.take(i.saturating_add(1), line)?;
     }
-    bench.finish(&rt)?;
+    bench.finish()?;
     Ok(())
 }

@@ -1,4 +1,6 @@
 // What the lines of input ask, with the answers that they expect.
+ghost use Rattle.std.specs.Prelude.{◌≡◌, MatchResult};
+ghost use Rattle.vectors.specs.declared.questions.Answer.TheVariants.{Accepted, Refused};
 
 // An answer of the library, expected or given.
 #[derive(Drop)]
@@ -6,6 +8,18 @@ pub enum Answer {
     Accepted,
     Refused(u8),
     Message { message: Vec<u16>, wrong: usize },
+}
+
+// A check passes, or refuses by a number.
+impl From<Result<(), u8>> for Answer {
+    ghost from_gives = { λ r a. MatchResult r (λ _. a ≡ Accepted) (λ n. a ≡ Refused n) };
+
+    fn from(checked: Result<(), u8>) -> Answer {
+        match checked {
+            Ok(()) => Answer::Accepted,
+            Err(number) => Answer::Refused(number),
+        }
+    }
 }
 
 // A question about a field.

@@ -1,17 +1,13 @@
 // What the lines of a block have set.
 use crate::symbol::Symbol;
-
-// The field that a line names.
-#[derive(Clone, Copy)]
-pub enum FieldChoice {
-    Bytes,
-    Prime(u16),
-}
+use fields::any::AnyField;
+use fields::fault::FieldFault;
 
 // One thing that a line sets.
 #[derive(Drop)]
 pub enum Setting {
-    Field(FieldChoice),
+    // The field, or why there is none of its modulus.
+    Field(Result<AnyField, FieldFault>),
     Points(Vec<u16>),
     Dimension(u16),
     Repetition(u16),
@@ -22,9 +18,9 @@ pub enum Setting {
 }
 
 // All that is set.
-#[derive(Drop)]
+#[derive(Default, Drop)]
 pub struct Settings {
-    pub field: Option<FieldChoice>,
+    pub field: Option<AnyField>,
     pub points: Option<Vec<u16>>,
     pub dimension: Option<u16>,
     pub repetition: Option<u16>,
@@ -36,25 +32,10 @@ pub struct Settings {
 }
 
 impl Settings {
-    // Nothing is set.
-    pub fn none() -> Settings {
-        Settings {
-            field: None,
-            points: None,
-            dimension: None,
-            repetition: None,
-            multipliers: None,
-            trimmed: None,
-            file: None,
-            symbol: None,
-            codewords: None,
-        }
-    }
-
-    // Sets one thing; of two lines that set it the later counts.
+    // Sets one thing; of two lines that set it the later counts, and a modulus that has no field leaves none.
     pub fn set(&mut self, setting: Setting) {
         match setting {
-            Setting::Field(field) => self.field = Some(field),
+            Setting::Field(field) => self.field = field.ok(),
             Setting::Points(points) => self.points = Some(points),
             Setting::Dimension(dimension) => self.dimension = Some(dimension),
             Setting::Repetition(length) => self.repetition = Some(length),

@@ -1,6 +1,14 @@
 // Real symbols: their kinds, and the code of a block.
-ghost use Rattle.std.specs.Prelude.{◌≡◌, ℕ, ◌+◌, ◌*◌, nat_le};
-ghost use Rattle.vectors.specs.Kinds.{base, first_root_of};
+ghost use Rattle.std.specs.Prelude.{◌≡◌, ℕ, ◌+◌, ◌*◌, nat_le, IfOk};
+ghost use Rattle.vectors.specs.Kinds.{arithmetic_of, base, first_root_of};
+
+use fields::any::AnyField;
+use fields::fault::FieldFault;
+use fields::field::Field;
+use fields::gf256::Gf256;
+use fields::prime::Prime;
+use std::str::FromStr;
+use texts::fault::LineFault;
 
 // A kind of symbol.
 #[derive(Clone, Copy)]
@@ -19,7 +27,30 @@ pub struct Symbol {
     pub wrong: u16,
 }
 
+// The kind that a word names.
+impl FromStr for Kind {
+    type Err = LineFault;
+
+    fn from_str(word: &str) -> Result<Kind, LineFault> {
+        match word {
+            "qr" => Ok(Kind::Qr),
+            "pdf417" => Ok(Kind::Pdf417),
+            _ => Err(LineFault::Unknown),
+        }
+    }
+}
+
 impl Kind {
+    // The field of the codewords.
+    pub fn field(self) -> Result<AnyField, FieldFault>
+        ensures { IfOk result (λ f. ⟦<AnyField as Field>⟧.arithmetic f ≡ arithmetic_of self) }
+    {
+        match self {
+            Kind::Qr => Ok(AnyField::from(Gf256::new())),
+            Kind::Pdf417 => Ok(AnyField::from(Prime::new(929)?)),
+        }
+    }
+
     // The number whose powers are the points and the check roots.
     pub fn base(self) -> u16
         ensures { result ≡ base self }
@@ -46,8 +77,8 @@ impl Symbol {
     pub fn is_within_reach(self, missing: usize) -> bool
         ensures { result ≡ nat_le (2 * self.wrong + missing) self.checks }
     {
-        let checks = self.checks as usize;
-        let wrong = self.wrong as usize;
+        let checks = usize::from(self.checks);
+        let wrong = usize::from(self.wrong);
         missing <= checks && 2 * wrong <= checks - missing
     }
 }

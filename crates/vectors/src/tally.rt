@@ -1,34 +1,27 @@
 // How many numbers and answers were compared, and how many of them differ.
-ghost use Rattle.std.specs.Prelude.{◌≡◌, ℕ, ◌+◌, ◌-◌, ◌^◌, ◌≤◌, min, max, length, if◌then◌else◌};
+ghost use Rattle.std.specs.Prelude.{◌≡◌, ℕ, ◌+◌, ◌-◌, ◌^◌, ◌≤◌, min, max, length, if◌then◌else◌, count_by, not, codes, ◌==◌};
+ghost use Rattle.std.specs.List.{zip};
 ghost use Rattle.fields.specs.Numbers.{differ};
+ghost use Rattle.vectors.specs.Sums.{Both};
 
-#[derive(Clone, Copy)]
+use std::ops::Add;
+
+// Nothing is compared at first.
+#[derive(Clone, Copy, Default)]
 pub struct Tally {
     pub compared: usize,
     pub differing: usize,
 }
 
 impl Tally {
-    // Nothing compared.
-    pub fn none() -> Tally
-        ensures compared { result.compared ≡ 0 }
-        ensures differing { result.differing ≡ 0 }
-    {
-        Tally {
-            compared: 0,
-            differing: 0,
-        }
-    }
-
     // One answer compared, which agrees or not.
     pub fn of(agrees: bool) -> Tally
         ensures compared { result.compared ≡ 1 }
         ensures differing { result.differing ≡ (if agrees then 0 else 1) }
     {
-        let differing = if agrees { 0 } else { 1 };
         Tally {
             compared: 1,
-            differing,
+            differing: usize::from(!agrees),
         }
     }
 
@@ -47,12 +40,25 @@ impl Tally {
         }
     }
 
-    // Both tallies; what differs in either differs in the sum.
-    pub fn plus(self, other: Tally) -> Tally
-        ensures compared { result.compared ≡ min (self.compared + other.compared) (2 ^ 64 - 1) }
-        ensures differing { result.differing ≡ min (self.differing + other.differing) (2 ^ 64 - 1) }
-        ensures both { result.differing ≡ 0 → (self.differing ≡ 0) × (other.differing ≡ 0) }
+    // Whether all that was compared agrees.
+    pub fn verdict(self) -> &'static str
+        ensures { result.now ≡ (if self.differing == 0 then codes "agrees" else codes "DIFFERS") }
     {
+        if self.differing == 0 {
+            "agrees"
+        } else {
+            "DIFFERS"
+        }
+    }
+}
+
+// Both tallies; what differs in either differs in the sum.
+impl Add for Tally {
+    type Output = Tally;
+
+    ghost add_gives = { λ a b sum. Both a b sum };
+
+    fn add(self, other: Tally) -> Tally {
         Tally {
             compared: self.compared.saturating_add(other.compared),
             differing: self.differing.saturating_add(other.differing),
@@ -62,14 +68,8 @@ impl Tally {
 
 // In how many places two lists differ, up to the end of the shorter one.
 fn count_differing(a: &[u16], b: &[u16]) -> usize
-    ensures value { result ≡ differ a.now b.now }
+    ensures value { result ≡ count_by (λ p. not (p.0 == p.1)) (zip a.now b.now) }
     ensures few { result ≤ min (length a.now) (length b.now) }
 {
-    let mut count: usize = 0;
-    for i in 0..a.len().min(b.len()) {
-        if a[i] != b[i] {
-            count += 1;
-        }
-    }
-    count
+    a.iter().zip(b).filter(|(x, y)| **x != **y).count()
 }

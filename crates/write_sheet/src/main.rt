@@ -11,11 +11,11 @@
 
 use file::heading::Heading;
 use file::write;
-use std::alloc::{AllocError, Global};
+use std::alloc::Global;
 use std::io;
 use std::io::Write;
 use std::str::Lines;
-use texts::fault::LineFault;
+use texts::fault::{LineFault, understood};
 use texts::words::Words;
 
 // The heading in a line: `field`, the field byte and number, `n`, `k` and `depth`, each with its number.
@@ -79,10 +79,9 @@ fn main(rt: HostRuntime) -> anyhow::Result<()> {
         eprintln!(rt; "the first line has no heading")?;
         return Ok(());
     };
-    match sheet_of(rt.alloc(), lines) {
-        Ok(sheet) => write_file(&rt, &heading, &sheet)?,
-        Err(LineFault::Unknown) => eprintln!(rt; "a line has not its row")?,
-        Err(LineFault::Memory) => return Err(AllocError.into()),
+    match understood(sheet_of(rt.alloc(), lines))? {
+        Some(sheet) => write_file(&rt, &heading, &sheet)?,
+        None => eprintln!(rt; "a line has not its row")?,
     }
     Ok(())
 }

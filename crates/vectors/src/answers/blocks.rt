@@ -6,65 +6,48 @@ use super::{decode, issue};
 use crate::entries::{all_present, marks_of};
 use crate::questions::Answer;
 use crate::settings::Settings;
-use crate::symbol::{Kind, Symbol};
 use crate::tally::Tally;
 use codes::checks::count_missing;
 use codes::interface::{Code, Issuer};
 use evaluation::Evaluation;
-use fields::field::Field;
-use fields::gf256::Gf256;
-use fields::prime::Prime;
 use layers::Scaled;
 use std::alloc::{AllocError, Global};
 use symbols::{write_multipliers, write_points};
+use texts::fault::LineFault;
 
 // The number by which a code refuses what is not within reach.
 const NOT_WITHIN_REACH: u8 = 13;
 
-// Decodes the symbol that is set as it was made and as it was received.
+// Decodes the symbol that is set as it was made and as it was received; its code has to have multipliers.
 pub fn ask_symbol(
     heap: Global,
     settings: &Settings,
     received: &[Option<u16>],
-) -> Result<Option<Tally>, AllocError> {
+) -> Result<Tally, LineFault> {
     let (Some(symbol), Some(codewords)) = (settings.symbol, &settings.codewords) else {
-        return Ok(None);
+        return Err(LineFault::Unknown);
     };
-    match symbol.kind {
-        Kind::Qr => ask_block(heap, Gf256::new(), symbol, codewords, received),
-        Kind::Pdf417 => match Prime::new(929) {
-            Ok(field) => ask_block(heap, field, symbol, codewords, received),
-            Err(_) => Ok(None),
-        },
-    }
-}
-
-// The same over the symbol's field; nothing where its code has no multipliers.
-fn ask_block<F: Field + Copy>(
-    heap: Global,
-    field: F,
-    symbol: Symbol,
-    codewords: &[u16],
-    received: &[Option<u16>],
-) -> Result<Option<Tally>, AllocError> {
+    let Ok(field) = symbol.kind.field() else {
+        return Err(LineFault::Unknown);
+    };
     let n = u16::try_from(codewords.len()).unwrap_or(u16::MAX);
     let k = n.saturating_sub(symbol.checks);
-    let mut points = vec![in heap; 0u16; codewords.len()]?;
-    let mut multipliers = vec![in heap; 0u16; codewords.len()]?;
+    let mut points = vec![in heap; 0; codewords.len()]?;
+    let mut multipliers = vec![in heap; 0; codewords.len()]?;
     write_points(&field, symbol.kind.base(), &mut points);
     if write_multipliers(&field, symbol.kind.first_root(), &points, &mut multipliers).is_err() {
-        return Ok(None);
+        return Err(LineFault::Unknown);
     }
     let code = Scaled::new(field, multipliers, Evaluation::new(field, n, k, points));
     let made = all_present(heap, codewords)?;
     let missing = count_missing(&marks_of(heap, received)?);
     let undamaged = compare_found(heap, &code, codewords, &made, 0)?;
     let damaged = if symbol.is_within_reach(missing) {
-        compare_found(heap, &code, codewords, received, symbol.wrong as usize)?
+        compare_found(heap, &code, codewords, received, usize::from(symbol.wrong))?
     } else {
         compare_lost(heap, &code, received)?
     };
-    Ok(Some(undamaged.plus(damaged)))
+    Ok(undamaged + damaged)
 }
 
 // Decodes, and compares the wrong count, and the word of the message found with the codewords. Where nothing differs, a
@@ -86,7 +69,7 @@ fn compare_found<C: Code>(
         return Ok(Tally::of(false));
     };
     match issue(heap, code, &message)? {
-        Ok(word) => Ok(Tally::of_numbers(codewords, &word).plus(Tally::of(found == wrong))),
+        Ok(word) => Ok(Tally::of_numbers(codewords, &word) + Tally::of(found == wrong)),
         Err(_) => Ok(Tally::of(false)),
     }
 }

@@ -1,97 +1,79 @@
 // Lines that ask something, with the answers that they expect.
-use super::words::{byte, end, number, only, parse_entries, parse_numbers};
 use crate::questions::{Answer, CodeQuestion, FieldQuestion, FileQuestion, Question};
-use std::alloc::{AllocError, Global};
-use std::str::SplitWhitespace;
+use std::alloc::Global;
+use texts::fault::LineFault;
+use texts::words::{Words, only};
 
 // A question of the form `WORD .. = ..`; `asked` begins with its first word.
 pub fn parse_question(
     heap: Global,
     first: &str,
-    mut asked: SplitWhitespace<'_>,
-    expected: SplitWhitespace<'_>,
-) -> Result<Option<Question>, AllocError> {
+    mut asked: Words<'_>,
+    expected: Words<'_>,
+) -> Result<Question, LineFault> {
     let _ = asked.next();
     match first {
         "product" | "powers" | "inverses" => {
-            match parse_field_question(heap, first, asked, expected)? {
-                Some(question) => Ok(Some(Question::Field(question))),
-                None => Ok(None),
-            }
+            let question = parse_field_question(heap, first, asked, expected)?;
+            Ok(Question::Field(question))
         }
-        "decode" => match (parse_entries(heap, asked)?, parse_answer(heap, expected)?) {
-            (Some(received), Some(expected)) => {
-                Ok(Some(Question::Code(CodeQuestion::Decode { received, expected })))
-            }
-            _ => Ok(None),
-        },
-        "word" => match (parse_numbers(heap, asked)?, parse_numbers(heap, expected)?) {
-            (Some(message), Some(expected)) => {
-                Ok(Some(Question::Code(CodeQuestion::Word { message, expected })))
-            }
-            _ => Ok(None),
-        },
-        _ => match (parse_numbers(heap, asked)?, parse_answer(heap, expected)?) {
-            (Some(numbers), Some(expected)) => Ok(accepting_question(first, &numbers, expected)),
-            _ => Ok(None),
-        },
+        "decode" => {
+            let received = parse_entries(heap, asked)?;
+            let expected = parse_answer(heap, expected)?;
+            Ok(Question::Code(CodeQuestion::Decode { received, expected }))
+        }
+        "word" => {
+            let message = asked.numbers(heap)?;
+            let expected = expected.numbers(heap)?;
+            Ok(Question::Code(CodeQuestion::Word { message, expected }))
+        }
+        _ => {
+            let numbers = asked.numbers(heap)?;
+            accepting_question(first, &numbers, parse_answer(heap, expected)?)
+        }
     }
 }
 
-// A question about a field.
+// A question about a field: the inverses, the powers of a number, or a product of two.
 fn parse_field_question(
     heap: Global,
     first: &str,
-    asked: SplitWhitespace<'_>,
-    expected: SplitWhitespace<'_>,
-) -> Result<Option<FieldQuestion>, AllocError> {
-    let Some(numbers) = parse_numbers(heap, asked)? else {
-        return Ok(None);
-    };
-    if first == "inverses" && numbers.is_empty() {
-        return match parse_entries(heap, expected)? {
-            Some(entries) => Ok(Some(FieldQuestion::Inverses(entries))),
-            None => Ok(None),
-        };
-    }
-    let Some(expected) = parse_numbers(heap, expected)? else {
-        return Ok(None);
-    };
-    Ok(calculation(first, &numbers, expected))
-}
-
-// The powers of a number, or a product of two.
-fn calculation(first: &str, numbers: &[u16], expected: Vec<u16>) -> Option<FieldQuestion> {
-    match first {
-        "powers" => Some(FieldQuestion::Powers {
-            of: only(numbers)?,
-            expected,
+    asked: Words<'_>,
+    expected: Words<'_>,
+) -> Result<FieldQuestion, LineFault> {
+    let numbers = asked.numbers(heap)?;
+    match (first, numbers.as_slice()) {
+        ("inverses", []) => Ok(FieldQuestion::Inverses(parse_entries(heap, expected)?)),
+        ("powers", [of]) => Ok(FieldQuestion::Powers {
+            of: *of,
+            expected: expected.numbers(heap)?,
         }),
-        "product" => match numbers {
-            [a, b] => Some(FieldQuestion::Product {
-                a: *a,
-                b: *b,
-                expected: only(&expected)?,
-            }),
-            _ => None,
-        },
-        _ => None,
+        ("product", [a, b]) => Ok(FieldQuestion::Product {
+            a: *a,
+            b: *b,
+            expected: only(&expected.numbers(heap)?)?,
+        }),
+        _ => Err(LineFault::Unknown),
     }
 }
 
 // A question that is answered by `accepted` or a refusal.
-fn accepting_question(first: &str, numbers: &[u16], expected: Answer) -> Option<Question> {
-    match first {
-        "modulus" => Some(Question::Modulus {
-            modulus: only(numbers)?,
+fn accepting_question(
+    first: &str,
+    numbers: &[u16],
+    expected: Answer,
+) -> Result<Question, LineFault> {
+    match (first, numbers) {
+        ("modulus", [modulus]) => Ok(Question::Modulus {
+            modulus: *modulus,
             expected,
         }),
-        "depth" => Some(Question::Code(CodeQuestion::Depth {
-            depth: only(numbers)?,
+        ("depth", [depth]) => Ok(Question::Code(CodeQuestion::Depth {
+            depth: *depth,
             expected,
         })),
-        "fitness" if numbers.is_empty() => Some(Question::Code(CodeQuestion::Fitness(expected))),
-        _ => None,
+        ("fitness", []) => Ok(Question::Code(CodeQuestion::Fitness(expected))),
+        _ => Err(LineFault::Unknown),
     }
 }
 
@@ -99,85 +81,67 @@ fn accepting_question(first: &str, numbers: &[u16], expected: Answer) -> Option<
 pub fn parse_plain_question(
     heap: Global,
     first: &str,
-    mut words: SplitWhitespace<'_>,
-) -> Result<Option<Question>, AllocError> {
+    mut words: Words<'_>,
+) -> Result<Question, LineFault> {
     match first {
-        "received" => match parse_entries(heap, words)? {
-            Some(entries) => Ok(Some(Question::Received(entries))),
-            None => Ok(None),
-        },
-        "kept" => match parse_counts(words) {
-            Some(counts) => Ok(Some(Question::File(counts))),
-            None => Ok(None),
-        },
-        _ => match byte(words.next()) {
-            Some(row) => match parse_numbers(heap, words)? {
-                Some(expected) => Ok(Some(Question::File(FileQuestion::Row { row, expected }))),
-                None => Ok(None),
-            },
-            None => Ok(None),
-        },
+        "received" => Ok(Question::Received(parse_entries(heap, words)?)),
+        "kept" => Ok(Question::File(parse_counts(words)?)),
+        _ => {
+            let row = words.number()?;
+            let expected = words.numbers(heap)?;
+            Ok(Question::File(FileQuestion::Row { row, expected }))
+        }
     }
 }
 
 // The counts after `kept`: a number, `declined` and a number, `wrong` and a number.
-fn parse_counts(mut words: SplitWhitespace<'_>) -> Option<FileQuestion> {
-    let kept = number(words.next())? as usize;
-    if words.next() != Some("declined") {
-        return None;
-    }
-    let declined = number(words.next())? as usize;
-    if words.next() != Some("wrong") {
-        return None;
-    }
-    let wrong = number(words.next())? as usize;
-    end(words)?;
-    Some(FileQuestion::Counts {
-        kept,
-        declined,
-        wrong,
+fn parse_counts(mut words: Words<'_>) -> Result<FileQuestion, LineFault> {
+    let kept = words.number::<u16>()?;
+    words.expect("declined")?;
+    let declined = words.number::<u16>()?;
+    words.expect("wrong")?;
+    let wrong = words.number::<u16>()?;
+    words.end()?;
+    Ok(FileQuestion::Counts {
+        kept: usize::from(kept),
+        declined: usize::from(declined),
+        wrong: usize::from(wrong),
     })
 }
 
 // An answer: `accepted`, `refused` and a number, or `wrong`, a number, `message` and its numbers.
-fn parse_answer(
-    heap: Global,
-    mut words: SplitWhitespace<'_>,
-) -> Result<Option<Answer>, AllocError> {
-    match words.next() {
-        Some("accepted") => match end(words) {
-            Some(()) => Ok(Some(Answer::Accepted)),
-            None => Ok(None),
-        },
-        Some("refused") => Ok(parse_refusal(words)),
-        Some("wrong") => parse_message(heap, words),
-        _ => Ok(None),
+fn parse_answer(heap: Global, mut words: Words<'_>) -> Result<Answer, LineFault> {
+    match words.word()? {
+        "accepted" => {
+            words.end()?;
+            Ok(Answer::Accepted)
+        }
+        "refused" => {
+            let number = words.number()?;
+            words.end()?;
+            Ok(Answer::Refused(number))
+        }
+        "wrong" => {
+            let wrong = words.number::<u16>()?;
+            words.expect("message")?;
+            Ok(Answer::Message {
+                message: words.numbers(heap)?,
+                wrong: usize::from(wrong),
+            })
+        }
+        _ => Err(LineFault::Unknown),
     }
 }
 
-// The rest of an answer that begins with `refused`.
-fn parse_refusal(mut words: SplitWhitespace<'_>) -> Option<Answer> {
-    let number = byte(words.next())?;
-    end(words)?;
-    Some(Answer::Refused(number))
+// The numbers that are left of a line, where `-` stands for one that is missing.
+fn parse_entries(heap: Global, words: Words<'_>) -> Result<Vec<Option<u16>>, LineFault> {
+    words.map(parse_entry).try_collect(heap)
 }
 
-// The rest of an answer that begins with `wrong`.
-fn parse_message(
-    heap: Global,
-    mut words: SplitWhitespace<'_>,
-) -> Result<Option<Answer>, AllocError> {
-    let Some(wrong) = number(words.next()) else {
-        return Ok(None);
-    };
-    if words.next() != Some("message") {
-        return Ok(None);
-    }
-    match parse_numbers(heap, words)? {
-        Some(message) => Ok(Some(Answer::Message {
-            message,
-            wrong: wrong as usize,
-        })),
-        None => Ok(None),
+// The number in a word, or nothing where it is `-`.
+fn parse_entry(word: &str) -> Result<Option<u16>, LineFault> {
+    match word {
+        "-" => Ok(None),
+        _ => Ok(Some(word.parse::<u16>()?)),
     }
 }

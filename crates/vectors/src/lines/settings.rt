@@ -1,48 +1,42 @@
 // Lines that set something.
-use super::words::{end, number, only, parse_bytes, parse_numbers};
-use crate::settings::{FieldChoice, Setting};
-use std::alloc::{AllocError, Global};
-use std::str::SplitWhitespace;
+use crate::settings::Setting;
+use std::alloc::Global;
+use texts::fault::LineFault;
+use texts::words::{Words, only};
 
 // What a line sets, by its first word and those that follow.
 pub fn parse_setting(
     heap: Global,
     first: &str,
-    words: SplitWhitespace<'_>,
-) -> Result<Option<Setting>, AllocError> {
+    mut words: Words<'_>,
+) -> Result<Setting, LineFault> {
     match first {
-        "field" => Ok(parse_field(words)),
-        "file" => match parse_bytes(heap, words)? {
-            Some(bytes) => Ok(Some(Setting::File(bytes))),
-            None => Ok(None),
-        },
-        _ => match parse_numbers(heap, words)? {
-            Some(numbers) => Ok(setting_of(first, numbers)),
-            None => Ok(None),
-        },
+        "field" => {
+            let field = words.field()?;
+            words.end()?;
+            Ok(Setting::Field(field))
+        }
+        "file" => Ok(Setting::File(parse_bytes(heap, words)?)),
+        _ => setting_of(first, words.numbers(heap)?),
     }
 }
 
 // What a line with this first word and these numbers sets.
-fn setting_of(first: &str, numbers: Vec<u16>) -> Option<Setting> {
+fn setting_of(first: &str, numbers: Vec<u16>) -> Result<Setting, LineFault> {
     match first {
-        "points" => Some(Setting::Points(numbers)),
-        "multipliers" => Some(Setting::Multipliers(numbers)),
-        "codewords" => Some(Setting::Codewords(numbers)),
-        "dimension" => Some(Setting::Dimension(only(&numbers)?)),
-        "repetition" => Some(Setting::Repetition(only(&numbers)?)),
-        "trimmed" => Some(Setting::Trimmed(only(&numbers)?)),
-        _ => None,
+        "points" => Ok(Setting::Points(numbers)),
+        "multipliers" => Ok(Setting::Multipliers(numbers)),
+        "codewords" => Ok(Setting::Codewords(numbers)),
+        "dimension" => Ok(Setting::Dimension(only(&numbers)?)),
+        "repetition" => Ok(Setting::Repetition(only(&numbers)?)),
+        "trimmed" => Ok(Setting::Trimmed(only(&numbers)?)),
+        _ => Err(LineFault::Unknown),
     }
 }
 
-// The field that the rest of a line names.
-fn parse_field(mut words: SplitWhitespace<'_>) -> Option<Setting> {
-    let field = match words.next()? {
-        "gf256" => FieldChoice::Bytes,
-        "prime" => FieldChoice::Prime(number(words.next())?),
-        _ => return None,
-    };
-    end(words)?;
-    Some(Setting::Field(field))
+// The bytes that are left of a line, in hexadecimal.
+fn parse_bytes(heap: Global, words: Words<'_>) -> Result<Vec<u8>, LineFault> {
+    words
+        .map(|word| Ok(u8::from_str_radix(word, 16)?))
+        .try_collect(heap)
 }
