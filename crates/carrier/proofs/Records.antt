@@ -1,29 +1,18 @@
 -- The table's places as records, and what the checks of the calls say where they pass.
-use Rattle.std.proofs.Common.{◌≡◌, ℕ, ◌+◌, ◌*◌, ◌<◌, ◌≤◌, Bool, true, false, cond, eqb, ltb, leb, List, [], ◌∷◌, ◌++◌, map, length, get_or, take, set, Some, None, Ok, Err, Option, sym, refl, ap, ◌∙◌, arith, length-take}
+use Rattle.std.proofs.Common.{◌≡◌, ℕ, ◌*◌, ◌<◌, ◌≤◌, Bool, true, false, cond, eqb, ltb, leb, List, ◌++◌, map, length, get_or, take, set, Some, None, Ok, Err, Option, refl, ap, ◌∙◌, arith}
 use lib.Seq.{take-set-lt}
-use Rattle.std.proofs.lemmas.List.{map_more, map-set, get_or-map, get_or-take, take_more_set, take_at}
+use Rattle.std.proofs.lemmas.List.{map-set, take_at}
 use Rattle.std.proofs.lemmas.Bool.Decides.{nat_tests}
 use Rattle.fields.specs.Checks.{Check, unless, and_then}
 use Rattle.codes.specs.Checks.{number_check}
-use Rattle.codes.specs.Meaning.{Meaning, Sound}
+use Rattle.codes.specs.Meaning.{Meaning}
 use Rattle.codes.specs.declared.fault.CodeFault.TheVariants.{Scratch}
 use Rattle.codes.specs.declared.fault.FitnessFault.{FitnessFault}
-use Rattle.codes.specs.declared.interface.Issuer as issuer
-use Rattle.carrier.specs.declared.collector.Collector.{Collector}
 use Rattle.carrier.specs.declared.fault.CollectorFault.{CollectorFault}
 use Rattle.carrier.specs.declared.fault.CollectorFault.TheVariants.{Code, Place, StripLength, Taken, Vacant, SheetLength}
 use Rattle.carrier.specs.Book.{Book, filled, vacant}
 use Rattle.carrier.specs.Checks.{from_code, fit, fit_check, deliver_check, strike_check}
-use Rattle.carrier.specs.Records.{records, held, meaning_of, records_of, fitness_of, deliver_answer, strike_answer}
-
-pub map-step : {X : Type 0} (f : X → ℕ) (xs : List X) (ys : List ℕ) (i v : ℕ) (d : X) → i < length ys → i < length xs → take i ys ≡ map f (take i xs) → v ≡ f (get_or xs i d) → take (i + 1) (set ys i v) ≡ map f (take (i + 1) xs)
-map-step f xs ys i v d a b e h =
-    take_more_set ys i v a ∙ ap (λ (t : List ℕ). t ++ (v ∷ [])) e ∙ ap (λ (w : ℕ). map f (take i xs) ++ (w ∷ [])) h ∙ sym (map_more f xs i d b)
-
-record_at : (n D : ℕ) (strips : List (Option (List ℕ))) (place : ℕ) → place < n → n ≤ length strips → get_or (records n D strips) place None ≡ held D (get_or strips place None)
-record_at n D strips place a b =
-    let l : place < length (take n strips) = simp length-take (omega arith) in
-    get_or-map (held D) (take n strips) place None None l ∙ ap (held D) (get_or-take n strips place None a)
+use Rattle.carrier.specs.Records.{records, held}
 
 pub filled-held : (D : ℕ) (o : Option (List ℕ)) → filled (held D o) ≡ filled o
 filled-held D None = refl
@@ -32,9 +21,6 @@ filled-held D (Some s) = refl
 vacant-filled : (o : Option (List ℕ)) (b : Bool) → filled o ≡ b → vacant o ≡ cond b false true
 vacant-filled None b e = ap (λ (x : Bool). cond x false true) e
 vacant-filled (Some s) b e = ap (λ (x : Bool). cond x false true) e
-
-filled_at : (n D : ℕ) (strips : List (Option (List ℕ))) (place : ℕ) → place < n → n ≤ length strips → filled (get_or (records n D strips) place None) ≡ filled (get_or strips place None)
-filled_at n D strips place a b = ap filled (record_at n D strips place a b) ∙ filled-held D (get_or strips place None)
 
 pub records-set : (n D : ℕ) (strips : List (Option (List ℕ))) (place : ℕ) (o : Option (List ℕ)) → place < n → records n D (set strips place o) ≡ set (records n D strips) place (held D o)
 records-set n D strips place o h = ap (map (held D)) (take-set-lt n strips place o h) ∙ map-set (held D) (take n strips) place o
@@ -121,18 +107,3 @@ pub record Passed (f : Check CollectorFault) (D k need asked lent : ℕ) : Type 
 pub passed : (f : Check CollectorFault) (D k need asked lent : ℕ) → and_then f (reading D k need asked lent) ≡ Ok tt → Passed f D k need asked lent
 passed (Ok u) D k need asked lent e = record { fits = refl; long = grind (arith, nat_tests); lends = grind (arith, nat_tests) }
 passed (Err f) D k need asked lent e = let z : ◌≡◌ {A = ℕ} 0 1 = cc in absurd (omega arith)
-
--- how the checks of a delivery and of a strike end, by what the table holds at the place
-module _ {X : Type 0} (i : issuer.Ghosts X) (s : Collector X) (sound : (meaning_of i s).fitness ≡ Ok tt → Sound (meaning_of i s)) (ok : fitness_of i s ≡ Ok tt) (place : ℕ) (inside : place < (meaning_of i s).long) (t : Bool) (holds : t ≡ filled (get_or s.table.strips place None)) where
-  held-records : filled (get_or (records_of i s) place None) ≡ t
-  held-records =
-      let m = meaning_of i s in
-      let law = sound (fits m.fitness s.depth ok).code in
-      let full = s.table.full in
-      filled_at m.long s.depth s.table.strips place inside (omega (arith, law.length_high)) ∙ sym holds
-
-  pub delivery-ends : (strip : List ℕ) → length strip ≡ s.depth → number_check (meaning_of i s).order 0 strip ≡ Ok tt → cond t (Err Taken) (Ok tt) ≡ deliver_answer i s place strip
-  delivery-ends strip long below = sym (deliver-ends (meaning_of i s) s.depth (records_of i s) place strip t ok inside long below held-records)
-
-  pub striking-ends : cond t (Ok tt) (Err Vacant) ≡ strike_answer i s place
-  striking-ends = sym (strike-ends (meaning_of i s) s.depth (records_of i s) place t ok inside held-records)

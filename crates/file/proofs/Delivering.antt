@@ -1,7 +1,7 @@
 -- Strips delivered one after another.
-use Rattle.std.proofs.Common.{◌≡◌, ℕ, zero, suc, ◌+◌, ◌*◌, ◌<◌, ◌≤◌, Bool, cond, ◌⊎◌, List, [], ◌∷◌, ◌++◌, map, length, get_or, take, drop, set, replicate, Some, None, Ok, Err, sym, refl, ap, ◌∙◌, subst, inl, inr, append_assoc, arith}
+use Rattle.std.proofs.Common.{◌≡◌, ℕ, zero, suc, ◌+◌, ◌*◌, ◌<◌, Bool, cond, ◌⊎◌, List, [], ◌∷◌, ◌++◌, map, length, get_or, take, drop, set, replicate, Some, None, Ok, Err, sym, refl, ap, ◌∙◌, subst, inl, inr, append_assoc, arith}
 use Rattle.std.proofs.ByRecursion.{All-get_or}
-use Rattle.std.proofs.lemmas.List.{drop_more, get_or-drop, append-nil, map_more, take_all}
+use Rattle.std.proofs.lemmas.List.{drop_more, get_or-drop, append-nil, map_more}
 use Rattle.std.specs.List.{flat_map, AllByRecursion}
 use Rattle.std.specs.Result.{is_err}
 use Rattle.fields.specs.Checks.{Check, and_then}
@@ -72,12 +72,6 @@ brings_more i e s t ss at h before step calls held =
     let P : List Call → Type 0 = λ cs. Holds i t cs in
     subst P (append_assoc calls (map brought (take at ss)) (x ∷ []) ∙ ap (λ (cs : List Call). calls ++ cs) (sym (map_more brought ss at (strip 0 []) h)))
     (step (calls ++ map brought (take at ss)) (before calls held))
-
-pub brings_none : {X : Type 0} (i : issuer.Ghosts X) (e : Collector X) (ss : List Strip) → Brings i e e (take 0 ss)
-brings_none i e ss calls held = let P : List Call → Type 0 = λ cs. Holds i e cs in subst P (sym (append-nil calls)) held
-
-pub brings_all : {X : Type 0} (i : issuer.Ghosts X) (e t : Collector X) (ss : List Strip) (at : ℕ) → length ss ≤ at → Brings i e t (take at ss) → Brings i e t ss
-brings_all i e t ss at h b = let P : List Strip → Type 0 = λ x. Brings i e t x in subst P (take_all at ss h) b
 
 -- a new collector's records, or an unfit one's
 pub declined-fresh : {X : Type 0} (i : issuer.Ghosts X) (s : Collector X) (ss : List Strip) → Holds i s [] → declined (meaning_of i s) s.depth (records_of i s) ss ≡ declined (meaning_of i s) s.depth (replicate (meaning_of i s).long None) ss

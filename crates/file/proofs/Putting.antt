@@ -1,11 +1,11 @@
 -- The bytes of strips, as they are written.
-use Rattle.std.proofs.Common.{◌≡◌, ℕ, zero, suc, ◌+◌, ◌-◌, ◌*◌, ◌/◌, ◌%◌, ◌<◌, ◌≤◌, true, eqb, ltb, leb, List, [], ◌∷◌, ◌++◌, map, length, get_or, take, drop, set, Ok, Err, sym, refl, ap, ◌∙◌, append_assoc, mul-le-mul_right, suc-mul, arith, length-append, length-set, length-take, below_more}
+use Rattle.std.proofs.Common.{◌≡◌, ℕ, zero, suc, ◌+◌, ◌-◌, ◌*◌, ◌/◌, ◌%◌, ◌<◌, ◌≤◌, true, eqb, ltb, leb, List, [], ◌∷◌, ◌++◌, map, length, get_or, take, drop, set, Ok, Err, sym, refl, ap, ◌∙◌, append_assoc, mul-le-mul_right, suc-mul, arith, length-set, length-take, below_more}
 use lib.Arith.{digits_lt}
 use borrow.Rule.Slice.PartMut.{put_mid, post_of}
 use Rattle.std.specs.List.{range_with_len, flat_map, AllByRecursion}
-use Rattle.std.proofs.lemmas.List.{take_more_set, flat_map_more, get_or_append_left, get_or-append_right, get_or-take, length-take-le, take_at, drop_at, drop-drop}
+use Rattle.std.proofs.lemmas.List.{take_more_set, flat_map_more, get_or_append_left, get_or-append_right, get_or-take, length-take-le}
 use Rattle.std.proofs.lemmas.List.FromFn.{map-range_with_len_more, length-map-range_with_len}
-use Rattle.file.proofs.Forms.{length_two, length-strips}
+use Rattle.file.proofs.Forms.{length_two}
 use Rattle.std.proofs.lemmas.Slice.{take-put_mid}
 use Rattle.std.proofs.ByRecursion.{All-take, All-drop, All-map}
 use Rattle.std.proofs.lemmas.Bool.Decides.{nat_tests}
@@ -19,8 +19,7 @@ use Rattle.carrier.specs.Checks.{fit_check, from_code}
 use Rattle.carrier.specs.declared.fault.CollectorFault.{CollectorFault}
 use Rattle.carrier.specs.declared.fault.CollectorFault.TheVariants.{SheetLength}
 use Rattle.carrier.proofs.Books.{all_numbers}
-use Rattle.file.specs.declared.heading.Heading.{Heading}
-use Rattle.file.specs.Form.{Strip, two, strip_bytes, strips_bytes, trailer}
+use Rattle.file.specs.Form.{Strip, two, strip_bytes, strips_bytes}
 use Rattle.file.specs.Writes.{strip_by, strips_by, write_check, from_collector}
 use Rattle.file.specs.declared.fault.FileFault.TheVariants.{Collector, Output}
 
@@ -128,9 +127,6 @@ deep x D (j ∷ js) = (length-map-range_with_len (λ i. x i j) 0 D, deep x D js)
 pub deep-by : (x : ℕ → ℕ → ℕ) (D n : ℕ) → AllByRecursion (λ s. length s.numbers ≡ D) (strips_by x D n)
 deep-by x D n = All-map (λ s. length s.numbers ≡ D) (strip_by x D) (range_with_len 0 n) (deep x D (range_with_len 0 n))
 
-pub length-strips_by : (x : ℕ → ℕ → ℕ) (D n : ℕ) → length (strips_bytes (strips_by x D n)) ≡ n * (1 + 2 * D)
-length-strips_by x D n = length-strips D (strips_by x D n) (deep-by x D n) ∙ ap (λ k. k * (1 + 2 * D)) (length-map-range_with_len (strip_by x D) 0 n)
-
 pub rows_more : (words new : List ℕ) (row n m k : ℕ) (X : ℕ → ℕ → ℕ) → m ≡ n → row * n + n ≤ length words → length new ≡ n → ((r j : ℕ) → r < row → j < n → get_or words (r * n + j) 0 ≡ X r j) → ((j : ℕ) → j < n → get_or new j 0 ≡ X row j) → (r j : ℕ) → r < row + 1 → j < n → get_or (put_mid (row * m) k words new) (r * n + j) 0 ≡ X r j
 rows_more words new row n m k X e room l before here r j h lt =
     let start : row * n ≤ length words = omega arith in
@@ -148,17 +144,3 @@ issue_ok f k n room q m e a b c = rw e (rw c (grind (arith, nat_tests)))
 pub issued : (M : Meaning) (m old new : List ℕ) (r : Check CodeFault) → M.fitness ≡ Ok tt → length m ≡ M.dimension → length old ≡ M.long → number_check M.order 0 m ≡ Ok tt → r ≡ issue_check M m (length old) → new ≡ written r (M.word m) old → new ≡ M.word m
 issued M m old new r e a b c ans buf =
     buf ∙ ap (λ (x : Check CodeFault). written x (M.word m) old) (ans ∙ issue_ok M.fitness M.dimension M.long (length old) M.order m e a b c)
-
-pub length-file : (h : Heading) (B : List ℕ) (size : ℕ) → length B ≡ size → length (B ++ trailer h (length B)) ≡ size + 8
-length-file h B size l = length-append B (trailer h (length B)) ∙ ap (λ n. n + 8) l
-
-pub assembled : (h : Heading) (B S T out : List ℕ) (size k z : ℕ) → S ≡ B → length B ≡ size → T ≡ trailer h size → k ≡ 8 → z ≡ size → put_mid size k (S ++ post_of 0 z out) T ≡ (B ++ trailer h (length B)) ++ drop (length (B ++ trailer h (length B))) out
-assembled h B S T out size k z s l t ek ez =
-    let front : take size (S ++ post_of 0 z out) ≡ B = take_at S (post_of 0 z out) size (ap length s ∙ l) ∙ s in
-    let rest : post_of size k (S ++ post_of 0 z out) ≡ drop (size + 8) out = ap (drop k) (drop_at S (post_of 0 z out) size (ap length s ∙ l)) ∙ drop-drop k z out ∙ ap (λ n. drop n out) (let q : z + k ≡ size + 8 = omega arith in q) in
-    let end : T ≡ trailer h (length B) = t ∙ ap (trailer h) (sym l) in
-    let tail = ap (λ n. drop n out) (length-file h B size l) in
-    ap (λ x. x ++ (T ++ post_of size k (S ++ post_of 0 z out))) front
-    ∙ ap (λ x. B ++ (x ++ post_of size k (S ++ post_of 0 z out))) end
-    ∙ ap (λ x. B ++ (trailer h (length B) ++ x)) (rest ∙ sym tail)
-    ∙ sym (append_assoc B (trailer h (length B)) (drop (length (B ++ trailer h (length B))) out))

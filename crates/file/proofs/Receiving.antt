@@ -1,5 +1,5 @@
 -- The code of a heading that is fit, and what a collector of it makes of a file's strips.
-use Rattle.std.proofs.Common.{◌≡◌, ℕ, ◌+◌, ◌*◌, ◌≤◌, List, ◌++◌, length, take, drop, replicate, Some, None, Ok, Err, Option, Result, sym, refl, ap, ◌∙◌, subst, mul-le-mul, arith, length-append, length-drop, length-take}
+use Rattle.std.proofs.Common.{◌≡◌, ℕ, ◌+◌, ◌*◌, ◌≤◌, List, length, take, replicate, Some, None, Ok, Err, Option, Result, sym, refl, ap, ◌∙◌, subst, mul-le-mul, arith, length-take}
 use Rattle.std.proofs.lemmas.Bool.Decides.{nat_tests}
 use Rattle.fields.specs.Arithmetic.{Arithmetic}
 use Rattle.fields.specs.Checks.{Check, and_then}
@@ -79,10 +79,6 @@ carries file ss x old h e =
     Reading T.meaning g.depth (book_after T.meaning g.depth ss) old (Ok x.wrong) (take (g.depth * g.k) x.sheet) → Carries file x in
     let here : P x.heading = λ T k d r. record { strips = ss; taken = T; kept = k; declined = d; blank = old; reading = r } in
     subst P e here
-
--- a sheet at the start of a blank one
-pub whole_long : (new blank : List ℕ) (z : ℕ) → length blank ≡ 2048 → z ≤ 2048 → length new ≡ z → length (new ++ drop z blank) ≡ 2048
-whole_long new blank z b h l = length-append new (drop z blank) ∙ (let d = length-drop z blank in omega arith)
 
 pub part_long : (blank : List ℕ) (z size : ℕ) → length blank ≡ 2048 → size ≤ 2048 → z ≡ size → length (take z blank) ≡ size
 part_long blank z size b h e = simp length-take (omega arith)

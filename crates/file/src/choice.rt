@@ -12,6 +12,8 @@ use evaluation::Evaluation;
 use fields::gf256::Gf256;
 use fields::prime::Prime;
 
+pub use carrier::fitness::check_fitness;
+
 // The evaluation code over a prime field, or over GF(256). It is a code itself, so that its callers need not ask which.
 #[derive(Drop)]
 pub enum FileCode {

@@ -1,5 +1,5 @@
 -- The room for a sheet, and the scratch for a decoder.
-use Rattle.std.proofs.Common.{◌≡◌, ℕ, ◌+◌, ◌*◌, ◌≤◌, List, ◌++◌, length, take, drop, Some, Ok, Err, Result, ap, inl, inr, mul-le-mul, arith, length-take}
+use Rattle.std.proofs.Common.{◌≡◌, ℕ, ◌+◌, ◌*◌, ◌≤◌, List, length, Some, Ok, Err, Result, ap, inl, inr, mul-le-mul, arith}
 use Rattle.codes.specs.Meaning.{Meaning}
 use Rattle.carrier.specs.Checks.{fit}
 use Rattle.file.specs.Form.{Strip}
@@ -30,12 +30,6 @@ pub roomy : (file : List ℕ) (room : ℕ) (h : Heading) (ss : List Strip) → T
 roomy file room h ss taken fits h' ss' short taken' =
     let same : h' ≡ h = (taken.alone h' ss' taken'.holds.form).0 in
     omega (arith, ap size same, fits)
-
--- rows at the start of a buffer
-pub placed : (x : Received) (rows part old : List ℕ) → rows ≡ take (size x.heading) x.sheet → size x.heading ≤ 2048 → part ≡ rows → part ++ drop (length rows) old ≡ take (size x.heading) x.sheet ++ drop (size x.heading) old
-placed x rows part old e few same =
-    let long : length rows ≡ size x.heading = rw e (simp length-take (omega (arith, x.full, few))) in
-    rw (long, same, e)
 
 -- the scratch of a fit code of a heading's
 pub enough : (h : Heading) (scratch : ℕ) → h.depth ≡ 1 → scratch ≡ 16899 → (M : Meaning) → code_of h ≡ Some M → M.fitness ≡ Ok tt → need_of M ≤ scratch

@@ -11,7 +11,7 @@ use file::fault::FileFault;
 use file::heading::Heading;
 
 // Writes the message within reach of a word of the evaluation code with the points 0 to n - 1. Answers 0 and counts the
-// wrong numbers, or answers the refusal's number.
+// wrong numbers, or answers the refusal's number. The heading's numbers are parameters of their own for callers in C.
 #[unsafe(no_mangle)]
 pub extern "C" fn carrier_decode(
     kind: u8,

@@ -7,6 +7,7 @@ use file::heading::Heading;
 use file::write;
 
 // Writes a sheet's file at the output's start. Answers 0 and counts the file's bytes, or answers the refusal's number.
+// The heading's numbers are parameters of their own for callers in C.
 #[unsafe(no_mangle)]
 pub extern "C" fn carrier_write(
     kind: u8,

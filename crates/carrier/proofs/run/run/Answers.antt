@@ -27,14 +27,6 @@ loop-call-init g c =
       refl,
     )
 
-pub step-requires : goal.step-requires
-step-requires g c =
-    let i = g.C.Issuer in
-    let inv = c.loop-call.invariant in
-    let was = c.loop-call.collector in
-    let P : g.row.C.Denot → ℕ → Type 0 = λ x d. BookBelow (i.meaning x).order d (records_of i was) in
-    subst (λ x. P x was.depth) (sym inv.0) (subst (λ d. P c.new-collector.result.code d) (sym inv.1) inv.2)
-
 pub loop-call-preserved : goal.loop-call-preserved
 loop-call-preserved g c =
     let i = g.C.Issuer in
@@ -80,8 +72,8 @@ loop-call-preserved g c =
       drop-set-lt (at + 1) c.loop-call.calls at done (omega arith) ∙ rest,
     )
 
-pub returns : goal.returns
-returns g c =
+pub returns-clause-promise : goal.returns-clause-promise
+returns-clause-promise g c =
     let i = g.C.Issuer in
     let inv = c.loop-call.invariant in
     let calls = c.args.calls.now in
@@ -97,8 +89,7 @@ returns g c =
     let r3 = subst (λ (d : ℕ). R made.code d (map asked calls) (map reply c.loop-call.calls)) c.new-collector.ensures.depth r2 in
     let r4 = subst (λ (x : g.row.C.Denot). R x c.args.depth (map asked calls) (map reply c.loop-call.calls)) c.new-collector.ensures.code r3 in
     let keeps = g.met.C.Issuer.sound c.args.code in
-    record {
-      promise = promised (i.meaning c.args.code) (g.C.Code.need c.args.code) c.args.depth (map asked calls) (map reply c.loop-call.calls) keeps r4;
-      keeps = keeps;
-      codes = codes_kept;
-    }
+    promised (i.meaning c.args.code) (g.C.Code.need c.args.code) c.args.depth (map asked calls) (map reply c.loop-call.calls) keeps r4
+
+pub returns-clause-codes : goal.returns-clause-codes
+returns-clause-codes g c = codes_kept

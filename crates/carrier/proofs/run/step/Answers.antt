@@ -1,57 +1,49 @@
-use Rattle.std.proofs.Common.{◌≡◌, ℕ, List, length, set, Some, None, vec_items, sym, refl, ap, ◌∙◌, subst, arith, length-take}
+use Rattle.std.proofs.Common.{◌≡◌, ℕ, List, length, set, Some, vec_items, sym, ap, ◌∙◌, subst, arith, length-take}
 use Rattle.std.specs.Vec.{with_items}
 use Rattle.std.proofs.lemmas.List.{length-map, with_items_is}
 use Rattle.carrier.specs.Checks.{deliver_check, read_check, entered}
 use Rattle.carrier.specs.Records.{meaning_of, records_of, fitness_of, BookBelow}
 use Rattle.carrier.specs.Steps.{Checked}
-use Rattle.carrier.proofs.Books.{after-deliver, after-strike, deliver-below, strike-below}
+use Rattle.carrier.proofs.Books.{after-deliver, deliver-below, strike-below}
 use Rattle.carrier.proofs.Records.{fits, passed}
 use Rattle.carrier.proofs.Unique.{checked}
 use Rattle.carrier.proofs.run.step.Goals as goal
 
-pub returns-in-Deliver : goal.returns-in-Deliver
-returns-in-Deliver g c =
+pub returns-in-Deliver-clause-book : goal.returns-in-Deliver-clause-book
+returns-in-Deliver-clause-book g c =
     let s = c.args.collector.now in
     let i = g.C.Issuer in
     let m = meaning_of i s in
     let D = s.depth in
     let b = records_of i s in
-    let f = fitness_of i s in
     let place = c.in-Deliver.place in
     let strip = vec_items c.in-Deliver.strip in
     let e = c.deref.ensures.value in
-    let left = c.deliver.ensures.records in
     let ans : c.deliver.result ≡ deliver_check m D b place strip = c.deliver.ensures.answer ∙ ap (deliver_check m D b place) e in
     let kept : records_of i c.deliver.new.self ≡ entered c.deliver.result (set b place (Some strip)) b =
-    left.records ∙ ap (λ (t : List ℕ). entered c.deliver.result (set b place (Some t)) b) e in
-    rw c.in-Deliver.is (record {
-      answer = (refl, refl, ans);
-      book = λ ok. kept ∙ ap (λ r. entered r (set b place (Some strip)) b) ans ∙ after-deliver f m.long D m.order b place strip ok;
-      below = subst (BookBelow m.order D) (sym kept) (deliver-below f m.long D m.order b place strip c.deliver.result ans c.requires);
-      code = left.code;
-      depth = left.depth;
-    })
+    c.deliver.ensures.records.records ∙ ap (λ (t : List ℕ). entered c.deliver.result (set b place (Some t)) b) e in
+    rw c.in-Deliver.is (λ ok. kept ∙ ap (λ r. entered r (set b place (Some strip)) b) ans ∙ after-deliver (fitness_of i s) m.long D m.order b place strip ok)
 
-pub returns-in-Strike : goal.returns-in-Strike
-returns-in-Strike g c =
+pub returns-in-Deliver-clause-below : goal.returns-in-Deliver-clause-below
+returns-in-Deliver-clause-below g c =
     let s = c.args.collector.now in
     let i = g.C.Issuer in
     let m = meaning_of i s in
-    let D = s.depth in
     let b = records_of i s in
-    let place = c.in-Strike.place in
-    let left = c.strike.ensures.records in
-    let ans = c.strike.ensures.answer in
-    rw c.in-Strike.is (record {
-      answer = (refl, ans);
-      book = λ ok. left.records ∙ ap (λ r. entered r (set b place None) b) ans ∙ after-strike (fitness_of i s) m.long D m.order b place ok;
-      below = subst (BookBelow m.order D) (sym left.records) (strike-below m.order D b place c.strike.result c.requires);
-      code = left.code;
-      depth = left.depth;
-    })
+    let place = c.in-Deliver.place in
+    let strip = c.deref.result.now in
+    subst (BookBelow m.order s.depth) (sym c.deliver.ensures.records.records)
+    (deliver-below (fitness_of i s) m.long s.depth m.order b place strip c.deliver.result c.deliver.ensures.answer c.requires)
 
-pub returns-in-Read : goal.returns-in-Read
-returns-in-Read g c =
+pub returns-in-Strike-clause-below : goal.returns-in-Strike-clause-below
+returns-in-Strike-clause-below g c =
+    let s = c.args.collector.now in
+    let i = g.C.Issuer in
+    let m = meaning_of i s in
+    subst (BookBelow m.order s.depth) (sym c.strike.ensures.records.records) (strike-below m.order s.depth (records_of i s) c.in-Strike.place c.strike.result c.requires)
+
+pub returns-in-Read-clause-answer : goal.returns-in-Read-clause-answer
+returns-in-Read-clause-answer g c =
     let s = c.args.collector.now in
     let i = g.C.Issuer in
     let m = meaning_of i s in
@@ -80,10 +72,4 @@ returns-in-Read g c =
     let t2 : P page new scratch scr = subst (λ (v : List ℕ). P page new v scr) was t1 in
     let t3 = subst (λ (v : List ℕ). P page v scratch scr) (sym sheet') t2 in
     let t4 = subst (λ (v : List ℕ). P page (vec_items (with_items c.in-Read.sheet new)) scratch v) (sym scratch') t3 in
-    rw c.in-Read.is (record {
-      answer = (t4, ap length scratch' ∙ c.read.auto.scratch ∙ ap length was);
-      book = λ ok. refl;
-      below = c.requires;
-      code = refl;
-      depth = refl;
-    })
+    rw c.in-Read.is (t4, ap length scratch' ∙ c.read.auto.scratch ∙ ap length was)

@@ -6,23 +6,6 @@ use Rattle.file.specs.Writes.{entry_by}
 use Rattle.file.proofs.Putting.{within, rows_more, issued, part_numbers}
 use Rattle.file.proofs.writing.issue_rows.Goals as goal
 
-pub slice_bounds-message-end : goal.slice_bounds-message-end
-slice_bounds-message-end g c =
-    let n = (g.C.Issuer.meaning c.args.code.now).dimension in
-    let w = within c.loop-row.row c.args.depth n c.loop-row-test.true in
-    let e = c.dimension-k.ensures in
-    let goal : c.loop-row.row * c.dimension-k.result + c.dimension-k.result ≤ length c.args.sheet.now = rw e (omega (arith, c.requires.sheet)) in
-    goal
-
-pub slice_bounds-issue-end : goal.slice_bounds-issue-end
-slice_bounds-issue-end g c =
-    let n = (g.C.Issuer.meaning c.args.code.now).long in
-    let w = within c.loop-row.row c.args.depth n c.loop-row-test.true in
-    let e = c.length-n.ensures in
-    let k = c.loop-row.auto.words in
-    let goal : c.loop-row.row * c.length-n.result + c.length-n.result ≤ length c.loop-row.words = rw e (omega (arith, c.requires.words)) in
-    goal
-
 pub loop-row-preserved : goal.loop-row-preserved
 loop-row-preserved g c =
     let code = c.args.code.now in

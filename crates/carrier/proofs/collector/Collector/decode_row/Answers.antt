@@ -5,8 +5,8 @@ use Rattle.carrier.proofs.Records.{fits}
 use Rattle.carrier.proofs.Rows.{column_row, row_told}
 use Rattle.carrier.proofs.collector.Collector.decode_row.Goals as goal
 
-pub returns : goal.returns
-returns g c =
+pub returns-clause-answer : goal.returns-clause-answer
+returns-clause-answer g c =
     let s = c.args.self.now in
     let i = g.C.Issuer in
     let m = meaning_of i s in
@@ -21,4 +21,4 @@ returns g c =
     let p = column_row m (g.C.Code.need s.code) s.depth s.table.strips c.args.row n (take n c.column.result.0) (take n c.column.result.1)
     (length c.args.message.now) (length c.args.scratch.now) c.args.message.now c.decode.new.message c.args.scratch.now c.decode.new.scratch c.decode.result
     f.code c.requires.within wide a b c.requires.asked c.requires.lent (ap (take n) c.column.ensures.numbers) (ap (take n) c.column.ensures.marks) c.decode.ensures in
-    record { answer = row_told m (records_of i s) c.args.row c.decode.new.message c.decode.result c.map_err.result (λ e f q. search rules) c.map_err.ensures.cases p.0; rest = p.1 }
+    row_told m (records_of i s) c.args.row c.decode.new.message c.decode.result c.map_err.result (λ e f q. search rules) c.map_err.ensures.cases p.0

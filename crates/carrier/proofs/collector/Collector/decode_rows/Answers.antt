@@ -7,36 +7,20 @@ use Rattle.carrier.proofs.Records.{fits, passed}
 use Rattle.carrier.proofs.Rows.{next_within, rows_more, row-few}
 use Rattle.carrier.proofs.collector.Collector.decode_rows.Goals as goal
 
-pub slice_bounds-decode_row-end : goal.slice_bounds-decode_row-end
-slice_bounds-decode_row-end g c =
-    let s = c.args.self.now in
-    let i = g.C.Issuer in
-    let m = meaning_of i s in
-    let p = passed (fitness_of i s) s.depth m.dimension (g.C.Code.need s.code) (length c.args.sheet.now) (length c.args.scratch.now) c.requires.checked in
-    let w = next_within c.loop-row.row s.depth c.dimension-long.result c.loop-row-test.true in
-    let e : s.depth * c.dimension-long.result ≡ s.depth * m.dimension = ap (λ (t : ℕ). s.depth * t) c.dimension-long.ensures in
-    let l = p.long in
-    let k = c.loop-row.auto.sheet in
-    let goal : c.loop-row.row * c.dimension-long.result + c.dimension-long.result ≤ length c.loop-row.sheet = omega (arith, w, e, l, k) in
-    goal
-
-pub returns-in_err-wrong : goal.returns-in_err-wrong
-returns-in_err-wrong g c =
+pub returns-in_err-wrong-clause-rows : goal.returns-in_err-wrong-clause-rows
+returns-in_err-wrong-clause-rows g c =
     let s = c.args.self.now in
     let m = meaning_of g.C.Issuer s in
     let p = err_from_is_err_and c.from_residual.result c.from_residual.ensures.1 in
     let a = c.in_err-wrong.ensures.answer in
     let inv = c.loop-row.invariant in
     rw (p.1, p.2) (record {
-      rows = record {
-        at = c.loop-row.row;
-        inside = c.loop-row-test.true;
-        why = c.in_err-wrong.field-0.0.fault;
-        fault = ap (λ (t : ℕ). Code c.in_err-wrong.field-0.0.fault t) a.0;
-        lost = a.1;
-        before = λ j h. (row m.dimension j c.loop-row.sheet, inv.2 j h);
-      };
-      rest = c.decode_row.ensures.rest ∙ inv.3;
+      at = c.loop-row.row;
+      inside = c.loop-row-test.true;
+      why = c.in_err-wrong.field-0.0.fault;
+      fault = ap (λ (t : ℕ). Code c.in_err-wrong.field-0.0.fault t) a.0;
+      lost = a.1;
+      before = λ j h. (row m.dimension j c.loop-row.sheet, inv.2 j h);
     })
 
 pub loop-row-preserved : goal.loop-row-preserved

@@ -4,7 +4,7 @@ use Rattle.std.proofs.lemmas.List.{take_at}
 use Rattle.std.proofs.lemmas.Result.{err_from_is_err_and}
 use Rattle.file.specs.declared.heading.Heading.{Heading}
 use Rattle.file.specs.Reads.{Taken, strips_of}
-use Rattle.file.proofs.Receiving.{few-numbers, made, carries, whole_long, part_long, lost, found}
+use Rattle.file.proofs.Receiving.{few-numbers, made, carries, part_long, lost, found}
 use Rattle.file.proofs.received.reception.receive.Goals as goal
 
 -- the sheet's size, by the reader's heading
@@ -23,20 +23,6 @@ slice_bounds-collect_from-end c =
     let T : Taken R.heading (strips_of R) c.args.file.now = c.in_ok-reader.ensures in
     let few : c.size-size.result ≤ 2048 = omega (arith, c.size-size.ensures, same_size c.heading-heading.result R.heading c.heading-heading.ensures, few-numbers R.heading (strips_of R) c.args.file.now T) in
     search rules
-
-pub invariant_of-result : goal.invariant_of-result
-invariant_of-result c =
-    let R = c.in_ok-reader.reader in
-    let h = c.heading-heading.result in
-    let T : Taken R.heading (strips_of R) c.args.file.now = c.in_ok-reader.ensures in
-    let few = few-numbers R.heading (strips_of R) c.args.file.now T in
-    let size = c.size-size.ensures ∙ same_size h R.heading c.heading-heading.ensures in
-    let blank : List ℕ = replicate 2048 0 in
-    let whole : length blank ≡ 2048 = length-replicate {A = ℕ} 2048 0 in
-    let z = c.size-size.result in
-    let low : z ≤ 2048 = omega (arith, few, size) in
-    let long = c.collect_from.auto.sheet in
-    record { full = whole_long c.collect_from.new.sheet blank z whole low (long ∙ part_long blank z z whole low refl) }
 
 pub returns-in_err-wrong : goal.returns-in_err-wrong
 returns-in_err-wrong c =

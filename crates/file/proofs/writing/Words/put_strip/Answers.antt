@@ -1,7 +1,5 @@
-use Rattle.std.proofs.Common.{◌≡◌, ℕ, ◌+◌, ◌*◌, ◌/◌, ◌%◌, ◌<◌, ◌≤◌, List, ◌∷◌, map, length, get_or, sym, ap, ◌∙◌, arith, length-set}
-use Rattle.std.specs.List.{range_with_len, flat_map}
-use Rattle.std.proofs.lemmas.List.{take_all, take_more_set}
-use Rattle.file.specs.Form.{two}
+use Rattle.std.proofs.Common.{◌≡◌, ℕ, ◌+◌, ◌*◌, ◌/◌, ◌%◌, ◌<◌, ◌≤◌, List, length, get_or, ap, ◌∙◌, arith, length-set}
+use Rattle.std.proofs.lemmas.List.{take_more_set}
 use Rattle.file.proofs.Putting.{strip-more}
 use Rattle.file.proofs.writing.Words.put_strip.Goals as goal
 
@@ -20,12 +18,3 @@ loop-row-preserved c =
     let low : get_or c.to_be_bytes.result 1 0 ≡ x % 256 = ap (λ (b : List ℕ). get_or b 1 0) bytes in
     let room : 1 + 2 * (at + 1) ≤ length c.loop-row.output = omega (arith, c.requires.output, length-set c.args.output.now 0 c.args.place) in
     rw (high, low) (strip-more c.loop-row.output c.args.place at (λ r. get_or c.args.self.now.numbers.now (r * c.args.self.now.long + c.args.place) 0) room c.loop-row.invariant)
-
-pub returns : goal.returns
-returns c =
-    let k = c.loop-row.auto.output in
-    let e : c.loop-row.row ≡ c.args.self.now.depth = omega arith in
-    let l : length c.loop-row.output ≤ 1 + 2 * c.loop-row.row = omega (arith, c.requires.output, length-set c.args.output.now 0 c.args.place) in
-    sym (take_all (1 + 2 * c.loop-row.row) c.loop-row.output l)
-    ∙ c.loop-row.invariant
-    ∙ ap (λ n. c.args.place ∷ flat_map two (map (λ r. get_or c.args.self.now.numbers.now (r * c.args.self.now.long + c.args.place) 0) (range_with_len 0 n))) e
