@@ -62,7 +62,11 @@ impl Numbers for Upto {
     }
 
     fn at(&self, i: usize) -> u16 {
-        if i < usize::from(self.count) { i as u16 } else { 0 }
+        if i < usize::from(self.count) {
+            i as u16
+        } else {
+            0
+        }
     }
 }
 

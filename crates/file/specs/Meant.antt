@@ -3,16 +3,9 @@ use Rattle.std.specs.Prelude.{◌≡◌, ℕ, ◌+◌, ◌*◌, cond, ◌&&◌, 
 use Rattle.fields.specs.Arithmetic.{Arithmetic}
 use Rattle.fields.specs.Binary.{bytes}
 use Rattle.fields.specs.Primes.{listed, residues}
-use Rattle.fields.specs.contracts.gf256.Gf256.{the_row as bytes-row}
-use Rattle.fields.specs.contracts.gf256.Gf256Field.TheImpl as gf256
-use Rattle.fields.specs.contracts.prime.Prime.{the_row as prime-row}
-use Rattle.fields.specs.contracts.prime.PrimeField.TheImpl as prime
 use Rattle.codes.specs.Lists.{counting}
 use Rattle.codes.specs.Meaning.{Meaning}
-use Rattle.codes.specs.contracts.numbers.Upto.{the_row as upto-row}
-use Rattle.codes.specs.contracts.numbers.UptoNumbers.TheImpl as upto
 use Rattle.evaluation.specs.Evaluation.{evaluation}
-use Rattle.evaluation.specs.Made.{meant}
 use Rattle.file.specs.declared.choice.FileCode.{FileCode}
 use Rattle.file.specs.declared.choice.FileCode.TheVariants.{Remainders, Bytes}
 use Rattle.file.specs.declared.fault.FileFault.{FileFault}
@@ -35,8 +28,8 @@ code_of h = code_over h (field_of h)
 
 -- what a code of one of the two types means
 abbrev pub meaning_in : FileCode → Meaning
-meaning_in (Remainders c) = meant prime-row upto-row prime.ghosts upto.ghosts c
-meaning_in (Bytes c) = meant bytes-row upto-row gf256.ghosts upto.ghosts c
+meaning_in (Remainders c) = evaluation (residues c.field.modulus) c.length c.dimension (counting 0 c.points.count)
+meaning_in (Bytes c) = evaluation bytes c.length c.dimension (counting 0 c.points.count)
 
 -- the scratch that an evaluation code of n points needs
 abbrev pub need_of : Meaning → ℕ

@@ -1,5 +1,5 @@
 -- Rows of numbers: places of a multiple added, and a row inside a longer list.
-use Rattle.std.proofs.Common.{◌≡◌, ℕ, zero, suc, ◌+◌, ◌<◌, List, [], ◌∷◌, length, get_or, refl, ap, ◌∙◌, arith}
+use Rattle.std.proofs.Common.{◌≡◌, ℕ, zero, suc, ◌<◌, List, [], ◌∷◌, length, get_or, refl, ap, arith}
 use Rattle.std.specs.List.{push}
 use Rattle.fields.specs.Arithmetic.{Arithmetic}
 use Rattle.linear.specs.Equations.{dot}

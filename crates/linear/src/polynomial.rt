@@ -23,5 +23,4 @@ pub fn polynomial_laws()
     ensures constant { ConstantAtZero }
     ensures roots { RootBound }
     ensures apart { WordsApart }
-{
-}
+{}

@@ -7,5 +7,4 @@ ghost use Rattle.piles.specs.Keeping.{CodesKeep};
 // The theorem on the codes: when each is fit, and with which distance it keeps the code meaning.
 pub fn codes_keep()
     ensures { CodesKeep }
-{
-}
+{}

@@ -1,7 +1,5 @@
 use Rattle.std.proofs.Common.{arith}
-use Rattle.std.proofs.lemmas.List.{at_drop_all}
 use Rattle.std.proofs.lemmas.Bool.Decides.{nat_tests}
-use Rattle.codes.specs.Words.{missing}
 use Rattle.codes.proofs.Steps.{missing-more}
 use Rattle.codes.proofs.checks.count_missing.Goals as goal
 use Rattle.codes.proofs.checks.count_missing.Goals.{then-mark-ne0, else-mark-ne0}
@@ -10,6 +8,3 @@ pub loop-mark-preserved : goal.loop-mark-preserved
 loop-mark-preserved c =
     let e = missing-more c.args.marks.now c.loop-mark.mark-index c.loop-mark-test.true in
     elim c.if-mark-ne0.branch [ then-mark-ne0 w ↦ grind (arith, nat_tests) | else-mark-ne0 w ↦ grind (arith, nat_tests) ]
-
-pub returns : goal.returns
-returns c = let e = at_drop_all missing c.args.marks.now c.loop-mark.mark-index c.loop-mark-test.false in omega arith

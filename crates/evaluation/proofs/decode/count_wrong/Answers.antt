@@ -1,4 +1,4 @@
-use Rattle.std.proofs.Common.{◌≡◌, ℕ, ◌≤◌, Bool, true, false, cond, eqb, length, get_or, drop, sym, ap, ◌∙◌, arith}
+use Rattle.std.proofs.Common.{◌≡◌, ℕ, ◌≤◌, cond, eqb, length, get_or, drop, sym, ap, ◌∙◌, arith}
 use lib.ListN.{length-map}
 use Rattle.std.proofs.lemmas.List.{drop_all, get_or-map}
 use Rattle.std.proofs.lemmas.Bool.Decides.{nat_tests}
@@ -48,9 +48,3 @@ loop-j-preserved g c =
 
 none_left : (rs ms ws : _) (j : ℕ) → length ms ≤ j → length rs ≡ length ms → wrong (drop j rs) (drop j ms) (drop j ws) ≡ 0
 none_left rs ms ws j h e = let a = drop_all j rs (omega arith) in ap (λ x. wrong x (drop j ms) (drop j ws)) a
-
-pub returns : goal.returns
-returns g c =
-    let F = operations g.F.Field c.args.f.now in
-    let none = none_left c.args.received.now.numbers.now c.args.received.now.marks.now (word F c.args.received.now.points.now c.args.message.now) c.loop-j.j c.loop-j-test.false (omega arith) in
-    omega (arith, c.loop-j.invariant.1)

@@ -1,21 +1,11 @@
-use Rattle.std.proofs.Common.{◌+◌, ◌-◌, ◌<◌, ◌≤◌, length, refl, mul-le-mul, arith}
+use Rattle.std.proofs.Common.{◌+◌, ◌-◌, ◌≤◌, length, mul-le-mul, arith}
 use Rattle.std.proofs.lemmas.Result.{err_from_is_err_and}
-use Rattle.evaluation.specs.Decoding.{present}
 use Rattle.evaluation.specs.Counted.{length-present}
-use Rattle.evaluation.specs.Evaluated.{solved-ok, solved-err, solved-few}
+use Rattle.evaluation.specs.Evaluated.{solved-ok, solved-err}
 use Rattle.evaluation.proofs.decode.decode_in.Goals as goal
 
 pub overflow_sub-m : goal.overflow_sub-m
 overflow_sub-m g c = omega (arith, c.count_missing.ensures, length-present c.args.received.now.marks.now c.args.received.now.points.now c.requires.given.points_long, c.requires.given.points_long)
-
-pub returns-then-m-message : goal.returns-then-m-message
-returns-then-m-message g c =
-    let F = g.F.Field.arithmetic c.args.f.now in
-    let ps = c.args.received.now.points.now in
-    let ms = c.args.received.now.marks.now in
-    let old = c.args.message.now in
-    let few : length (present ms ps) < length old = omega (arith, c.count_missing.ensures, length-present ms ps c.requires.given.points_long, c.requires.given.points_long, c.if-m-message.true) in
-    solved-few F ps c.args.received.now.numbers.now ms old old c.requires.given.points_long c.requires.given.received_long refl c.requires.fits c.requires.dimension few refl
 
 pub locate-requires : goal.locate-requires
 locate-requires g c =

@@ -1,7 +1,7 @@
 use Rattle.std.proofs.Common.{◌≡◌, ℕ, ◌+◌, ◌-◌, ◌*◌, ◌/◌, ◌<◌, ◌≤◌, ◌++◌, length, get_or, take, drop, Ok, sym, ap, ◌∙◌, subst, mul_comm, add-mul, one-mul, mul-add, arith, length-drop}
-use Rattle.std.proofs.ByRecursion.{All-get_or, All-append}
+use Rattle.std.proofs.ByRecursion.{All-get_or}
 use Rattle.std.proofs.lemmas.List.{take_at, length-take-le, length-append}
-use Rattle.fields.specs.Numbers.{Below, Zeros}
+use Rattle.fields.specs.Numbers.{Below}
 use Rattle.fields.proofs.Total.{TotalLaws}
 use Rattle.linear.specs.Equations.{Solution, solve_check}
 use Rattle.linear.specs.Operations.{operations}

@@ -23,15 +23,6 @@ within g c =
     let kept : length c.loop-x.rows ≡ length c.args.rows.now = c.loop-x.auto.rows in
     omega (arith, row_ends c.loop-x.r (length xs) c.args.w (next-row g c))
 
-pub overflow_mul-from : goal.overflow_mul-from
-overflow_mul-from g c = omega (arith, within g c)
-
-pub overflow_add-from : goal.overflow_add-from
-overflow_add-from g c = omega (arith, within g c)
-
-pub offset_bounds-rows-from : goal.offset_bounds-rows-from
-offset_bounds-rows-from g c = omega (arith, within g c)
-
 pub slice_bounds-write_equation-end : goal.slice_bounds-write_equation-end
 slice_bounds-write_equation-end g c = omega (arith, within g c)
 
@@ -98,7 +89,7 @@ returns g c i l =
     let points = c.loop-x.x-iterator.a.a.rest.now in
     let marks = c.loop-x.x-iterator.b.rest.now in
     let ended : length marks ≡ 0 = elim c.in-None.ensures.steps [
-      | inl e ↦ elim e.1 [ | inl e' ↦ sym inv.0 ∙ e'.1.0 | inr e' ↦ sym inv.1 ∙ e'.1.0 ]
+      | inl e ↦ elim e.1 [ inl e' ↦ sym inv.0 ∙ e'.1.0 | inr e' ↦ sym inv.1 ∙ e'.1.0 ]
       | inr e ↦ e.1.0
     ] in
     let none : length (drop r (present ms ps)) ≡ 0 = ap length (inv.2 ∙ ap (λ t. present t points) (nil_from_length marks ended)) in

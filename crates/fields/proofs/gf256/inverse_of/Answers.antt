@@ -1,6 +1,6 @@
-use Rattle.std.proofs.Common.{◌≡◌, ◌+◌, ◌-◌, ◌<◌, sym, ap, ◌∙◌, subst, ap₂, arith}
+use Rattle.std.proofs.Common.{◌≡◌, ◌+◌, ◌-◌, sym, ap, ◌∙◌, ap₂, arith}
 use Rattle.fields.specs.Binary.{product}
-use Rattle.fields.specs.Bytes.{powered, powered-none, powered-step, power-is, times_below}
+use Rattle.fields.specs.Bytes.{powered, powered-none, powered-step, power-is}
 use Rattle.fields.proofs.gf256.inverse_of.Goals as goal
 
 pub loop-preserved : goal.loop-preserved

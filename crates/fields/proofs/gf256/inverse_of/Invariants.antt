@@ -1,4 +1,4 @@
-use Rattle.std.proofs.Common.{◌≡◌, ◌-◌, ◌<◌}
+use Rattle.std.proofs.Common.{◌≡◌, ◌-◌}
 use Rattle.fields.specs.Bytes.{powered}
 use Rattle.fields.proofs.gf256.inverse_of.Given as goal
 

@@ -1,20 +1,11 @@
 use Rattle.std.proofs.Common.{◌≡◌, ℕ, ◌+◌, ◌-◌, ◌<◌, ◌≤◌, ◌≢◌, List, length, get_or, take, drop, set, replicate, sym, ap, ◌∙◌, subst, ap₂, arith}
 use borrow.Rule.Slice.PartMut.{put_mid}
-use Rattle.std.proofs.ByRecursion.{All-get_or}
-use Rattle.fields.proofs.Total.{TotalLaws, inverse-some, inverse-none}
+use Rattle.fields.proofs.Total.{TotalLaws, inverse-some}
 use Rattle.linear.specs.Equations.{reduced}
 use Rattle.linear.specs.Operations.{operations}
 use Rattle.linear.proofs.Division.{Down, down_start, down_more, down_done}
 use Rattle.linear.proofs.Lawful.{lawful}
 use Rattle.linear.proofs.divide.divide_by_lead.Goals as goal
-
-pub unreachable-requires : goal.unreachable-requires
-unreachable-requires g c =
-    let f = c.args.f.now in
-    let F = operations g.F.Field f in
-    let s = c.args.divisor.now in
-    let lead = c.args.lead in
-    c.requires.leads.highest.1 (inverse-none (g.F.Field.arithmetic f) (get_or s lead 0) c.in_default.ensures (All-get_or (λ x. x < F.order) s lead 0 c.requires.leads.highest.0 c.requires.leads.below))
 
 pub loop-i-init : goal.loop-i-init
 loop-i-init g c =

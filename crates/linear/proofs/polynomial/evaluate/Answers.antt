@@ -1,5 +1,4 @@
 use Rattle.std.proofs.Common.{◌≡◌, sym, ap, ◌∙◌}
-use Rattle.std.proofs.lemmas.List.{nil_from_length}
 use Rattle.linear.specs.Operations.{operations}
 use Rattle.linear.proofs.Lists.{value-onto, value-onto_zero, value-onto_push}
 use Rattle.linear.proofs.polynomial.evaluate.Goals as goal
@@ -16,8 +15,3 @@ loop-a-preserved g c =
     c.loop-a.invariant ∙ ap (λ p. value-onto F p c.args.x c.loop-a.sum) c.in-Some.ensures.steps
     ∙ value-onto_push F c.next.new.self.iter.rest.now c.in-Some.a.now c.args.x c.loop-a.sum
     ∙ ap (value-onto F c.next.new.self.iter.rest.now c.args.x) (sym (c.add-sum.ensures ∙ ap (F.plus c.in-Some.a.now) c.multiply.ensures))
-
-pub returns : goal.returns
-returns g c =
-    let F = operations g.F.Field c.args.f.now in
-    sym (c.loop-a.invariant ∙ ap (λ p. value-onto F p c.args.x c.loop-a.sum) (nil_from_length c.loop-a.a-iterator.iter.rest.now c.in-None.ensures.steps.0))

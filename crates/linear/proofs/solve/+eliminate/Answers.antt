@@ -39,18 +39,6 @@ returns-then-not-place_pivot g t c =
       below = subst (Below F.order) (sym u) (one_below F L, All-weaker (λ x. x ≡ 0) (λ x. x < F.order) (λ x e. subst (λ (y : ℕ). y < F.order) (sym e) (zero-below F L)) (drop (k + 1) z) zz);
     }
 
-pub split_at_mut-first-requires : goal.split_at_mut-first-requires
-split_at_mut-first-requires g t c =
-    let F = operations g.F.Field c.args.f.now in
-    let w = length c.args.v.now in
-    let k = c.args.c in
-    let old = c.args.rows.now in
-    let s = c.place_pivot.new.rows in
-    let came : c.place_pivot.result ≡ true = c.if-not-place_pivot.false in
-    let placed : PivotPlaced F w k old s true = subst (PivotPlaced F w k old s) came (subst (λ m. PivotPlaced F m k old s c.place_pivot.result) c.requires.room c.place_pivot.ensures) in
-    let long : length s ≡ length old = c.place_pivot.auto.rows in
-    omega (arith, row_ends 0 (height w old) w placed.0, c.requires.rows.whole)
-
 pub unreachable-requires : goal.unreachable-requires
 unreachable-requires g t c =
     let f = c.args.f.now in
@@ -125,8 +113,7 @@ eliminate-requires g t c κs falls =
     wide c.clear_column.auto.rows placed.2 c.in-Some.ensures c.scale_row.ensures cleared in
     let high' : height w rest' ≡ n = height_is w n rest' (omega (arith, within)) made.0.long' in
     let spare : length c.place_pivot.new.spare ≡ w = c.place_pivot.auto.spare ∙ c.requires.room in
-    let grid : Grid F w (height w rest') rest' = subst (λ m. Grid F w m rest') (sym high') (rest-grid F L w k n top rest rest' made.0) in
-    (
+    let grid : Grid F w (height w rest') rest' = subst (λ m. Grid F w m rest') (sym high') (rest-grid F L w k n top rest rest' made.0) in (
       omega (arith, c.clear_column.auto.rows, within),
       (falls, (omega (arith, c.requires.column, high', next), (spare, record { whole = ap (λ m. m * w) high' ∙ made.0.long'; grid = grid }))),
     )

@@ -4,18 +4,6 @@ use Rattle.linear.specs.Equations.{height, row, reduced}
 use Rattle.linear.proofs.Grid.{row_ends, get_or-row, length-row, rows_more}
 use Rattle.linear.proofs.solve.clear_column.Goals as goal
 
-pub offset_bounds-rows-from : goal.offset_bounds-rows-from
-offset_bounds-rows-from g c = omega (arith, row_ends c.loop-k.k (height (length c.args.pivot.now) c.args.rows.now) (length c.args.pivot.now) c.loop-k-test.true, c.requires.whole)
-
-pub bounds-rows-from : goal.bounds-rows-from
-bounds-rows-from g c = omega (arith, row_ends c.loop-k.k (height (length c.args.pivot.now) c.args.rows.now) (length c.args.pivot.now) c.loop-k-test.true, c.requires.whole)
-
-pub offset_bounds-rows-from-in-loop-k : goal.offset_bounds-rows-from-in-loop-k
-offset_bounds-rows-from-in-loop-k g c = omega (arith, row_ends c.loop-k.k (height (length c.args.pivot.now) c.args.rows.now) (length c.args.pivot.now) c.loop-k-test.true, c.requires.whole)
-
-pub slice_bounds-subtract_row-end : goal.slice_bounds-subtract_row-end
-slice_bounds-subtract_row-end g c = omega (arith, row_ends c.loop-k.k (height (length c.args.pivot.now) c.args.rows.now) (length c.args.pivot.now) c.loop-k-test.true, c.requires.whole)
-
 pub loop-k-preserved : goal.loop-k-preserved
 loop-k-preserved g c =
     let F = operations g.F.Field c.args.f.now in

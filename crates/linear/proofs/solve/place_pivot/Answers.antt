@@ -1,24 +1,11 @@
 use Rattle.std.proofs.Common.{◌≡◌, ℕ, suc, ◌+◌, ◌-◌, ◌*◌, ◌<◌, ◌≢◌, List, ◌++◌, length, get_or, take, drop, sym, ap, ◌∙◌, subst, ap₂, arith}
-use borrow.Author.Tests.{clash}
 use Rattle.fields.proofs.Total.{TotalLaws}
 use Rattle.linear.specs.Operations.{operations}
 use Rattle.linear.proofs.Lawful.{lawful}
 use Rattle.linear.specs.Equations.{height, row, reduced, Grid, Solves}
-use Rattle.linear.proofs.Grid.{row_ends, get_or-row, row_zero}
+use Rattle.linear.proofs.Grid.{get_or-row, row_zero}
 use Rattle.linear.proofs.Kernel.{raised_lead, raised_grid, raised_keeps}
 use Rattle.linear.proofs.solve.place_pivot.Goals as goal
-
-pub returns-in_default : goal.returns-in_default
-returns-in_default g c = λ i h. get_or-row (length c.args.spare.now) i c.args.c c.args.rows.now c.requires.column ∙ c.in_default.ensures i h
-
-pub offset_bounds-rows-p : goal.offset_bounds-rows-p
-offset_bounds-rows-p g c = omega (arith, row_ends c.in-Some.p (height (length c.args.spare.now) c.args.rows.now) (length c.args.spare.now) c.in-Some.ensures.0, c.requires.rows.whole)
-
-pub slice_bounds-copy_from_slice-end : goal.slice_bounds-copy_from_slice-end
-slice_bounds-copy_from_slice-end g c = omega (arith, row_ends c.in-Some.p (height (length c.args.spare.now) c.args.rows.now) (length c.args.spare.now) c.in-Some.ensures.0, c.requires.rows.whole)
-
-pub slice_bounds-subtract_row-end : goal.slice_bounds-subtract_row-end
-slice_bounds-subtract_row-end g c = omega (arith, row_ends c.in-Some.p (height (length c.args.spare.now) c.args.rows.now) (length c.args.spare.now) c.in-Some.ensures.0, c.requires.rows.whole)
 
 pub returns-then-p-gt0 : goal.returns-then-p-gt0
 returns-then-p-gt0 g c =
@@ -39,8 +26,7 @@ returns-then-p-gt0 g c =
     let t : drop (w - 0) s ≡ drop w s = ap (λ m. drop m s) whole in
     let spare : c.copy_from_slice.new.self ≡ row w (suc k) s = c.copy_from_slice.ensures.after ∙ ap (λ m. take m (drop (p * w) s)) width ∙ ap (λ m. row w m s) pk in
     let front : take (w - 0) s ≡ row w 0 s = ap (λ m. take m s) whole ∙ sym (row_zero w s) in
-    let is : ys ≡ reduced F (row w 0 s) 1 (row w (suc k) s) = c.subtract_row.ensures ∙ ap₂ (λ a b. reduced F a 1 b) front spare in
-    (
+    let is : ys ≡ reduced F (row w 0 s) 1 (row w (suc k) s) = c.subtract_row.ensures ∙ ap₂ (λ a b. reduced F a 1 b) front spare in (
       omega (arith, found.0),
       subst (λ (r : List ℕ). get_or (ys ++ r) c.args.c 0 ≢ 0) (sym t) (raised_lead F L w c.args.c n k s ys c.requires.rows.whole within is c.requires.column c.requires.rows.grid
           (get_or-row w 0 c.args.c s c.requires.column ∙ found.1 0 c.if-p-gt0.true)

@@ -1,4 +1,4 @@
-use Rattle.std.proofs.Common.{◌≡◌, ℕ, ◌+◌, ◌*◌, ◌<◌, ◌++◌, length, sym, refl, ap, ◌∙◌, subst, suc-mul, add-one, arith}
+use Rattle.std.proofs.Common.{◌≡◌, ℕ, ◌+◌, ◌*◌, ◌<◌, ◌++◌, length, sym, ap, ◌∙◌, subst, suc-mul, add-one, arith}
 use Rattle.fields.specs.Numbers.{Below}
 use Rattle.linear.specs.Equations.{height, row, dot, Grid}
 use Rattle.linear.specs.Operations.{operations}

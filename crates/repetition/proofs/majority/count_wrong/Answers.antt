@@ -1,8 +1,6 @@
-use Rattle.std.proofs.Common.{◌≡◌, ◌<◌, length, get_or, drop, replicate, arith}
+use Rattle.std.proofs.Common.{◌≡◌, ◌<◌, length, get_or, replicate, arith}
 use lib.ListN.{length-replicate, get_or-replicate}
-use Rattle.std.proofs.lemmas.List.{at_drop_all}
 use Rattle.std.proofs.lemmas.Bool.Decides.{nat_tests}
-use Rattle.codes.specs.Words.{wrong}
 use Rattle.codes.proofs.Steps.{wrong-more}
 use Rattle.repetition.proofs.majority.count_wrong.Goals as goal
 use Rattle.repetition.proofs.majority.count_wrong.Goals.{then-mark-eq0+then-received-i, else-mark-eq0, else-mark-eq0-via-then-mark-eq0+else-received-i, else-mark-eq0-via-else-mark-eq0}
@@ -23,10 +21,3 @@ loop-i-preserved c =
         | else-mark-eq0-via-else-mark-eq0 w' ↦ grind (arith, nat_tests)
       ]
     ]
-
-pub returns : goal.returns
-returns c =
-    let rs = c.args.received.now in
-    let ws = replicate (length rs) c.args.number in
-    let e = at_drop_all (λ x. wrong x (drop c.loop-i.i c.args.marks.now) (drop c.loop-i.i ws)) rs c.loop-i.i (omega arith) in
-    record { value = omega arith; few = omega arith }

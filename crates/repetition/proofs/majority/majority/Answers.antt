@@ -1,5 +1,5 @@
-use Rattle.std.proofs.Common.{◌≡◌, length, refl, sym, inl, inr, ◌∙◌, subst, arith}
-use Rattle.repetition.proofs.Repeats.{Left, left-fewer, left-below, none_near, missing-few}
+use Rattle.std.proofs.Common.{◌≡◌, length, refl, inl, inr, ◌∙◌, arith}
+use Rattle.repetition.proofs.Repeats.{left-fewer, left-below, none_near, missing-few}
 use Rattle.repetition.proofs.majority.majority.Goals as goal
 
 pub loop-number-init : goal.loop-number-init
@@ -36,5 +36,5 @@ loop-number-preserved c =
 pub returns : goal.returns
 returns c =
     let left = c.loop-number.number-iterator.a.rest.now in
-    let end : length left ≡ 0 = elim c.in-None.ensures.steps [ | inl e ↦ e.1.0 | inr e ↦ c.loop-number.invariant.same ∙ e.1.0 ] in
+    let end : length left ≡ 0 = elim c.in-None.ensures.steps [ inl e ↦ e.1.0 | inr e ↦ c.loop-number.invariant.same ∙ e.1.0 ] in
     record { fault = refl; none = none_near c.args.received.now c.args.marks.now c.requires.same (c.loop-number.invariant.none (λ j h. absurd (omega arith))) }
