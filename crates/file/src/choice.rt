@@ -5,14 +5,13 @@ ghost use Rattle.file.specs.Meant.{Chosen, meaning_in, need_of};
 
 use crate::fault::FileFault;
 use crate::heading::Heading;
+pub use carrier::fitness::check_fitness;
 use codes::fault::{CodeFault, FitnessFault};
 use codes::interface::{Code, Issuer};
 use codes::numbers::Upto;
 use evaluation::Evaluation;
 use fields::gf256::Gf256;
 use fields::prime::Prime;
-
-pub use carrier::fitness::check_fitness;
 
 // The evaluation code over a prime field, or over GF(256). It is a code itself, so that its callers need not ask which.
 #[derive(Drop)]
