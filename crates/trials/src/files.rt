@@ -1,4 +1,6 @@
 // Files: what is read of them, and why they are refused.
+use carrier::fault::CollectorFault;
+use codes::fault::CodeFault;
 use file::fault::FileFault;
 use file::heading::Heading;
 use file::received::receive;
@@ -90,7 +92,7 @@ fn what_is_written_is_read(rt: HostRuntime) -> Result<(), Fail> {
     let mut output = [77u8; 30];
     assert_eq!(rt;
         write(&heading, &[1, 2, 3, 256], &mut output),
-        Err(FileFault::Collector(number_fault()))
+        Err(FileFault::from(CollectorFault::from(CodeFault::Number(3))))
     );
     assert_eq!(rt;
         write(&heading, &[1, 2, 3, 4], &mut output[0..27]),
@@ -103,12 +105,4 @@ fn what_is_written_is_read(rt: HostRuntime) -> Result<(), Fail> {
     assert_eq!(rt; received.wrong, 0);
     assert_eq!(rt; received.number(1, 1), 4);
     Ok(())
-}
-
-// The fault of the number at place 3.
-fn number_fault() -> carrier::fault::CollectorFault {
-    carrier::fault::CollectorFault::Code {
-        fault: codes::fault::CodeFault::Number(3),
-        row: 0,
-    }
 }
