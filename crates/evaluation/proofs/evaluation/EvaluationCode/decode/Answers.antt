@@ -9,6 +9,20 @@ use Rattle.evaluation.specs.Checked.{fit-proper}
 use Rattle.evaluation.specs.Counted.{unmarked_present}
 use Rattle.evaluation.proofs.evaluation.EvaluationCode.decode.Goals as goal
 
+pub invariant_of-received : goal.invariant_of-received
+invariant_of-received g c =
+    let s = c.args.self.now in
+    let F = g.F.Field.arithmetic s.field in
+    let n = s.length in
+    let ps = g.P.Numbers.listed s.points in
+    let rs = c.args.received.now in
+    let p = passed (evaluation F n s.dimension ps) ((n + 1) * (n + 3)) rs c.args.marks.now (length c.args.message.now) (length c.args.scratch.now) (sym c.in_ok-check_decode.ensures) in
+    let proper = fit-proper F.order n s.dimension ps p.fits in
+    let whole : length rs - 0 ≡ n = omega (arith, p.received) in
+    let is : take (length rs - 0) c.gather-points.result ≡ ps =
+    ap (λ (i : ℕ). take i c.gather-points.result) whole ∙ ap (take n) c.gather-points.ensures ∙ front-filled 128 n ps proper.counted proper.few in
+    record { points_long = ap length is ∙ proper.counted ∙ sym p.marks; numbers_long = p.received ∙ sym p.marks }
+
 pub decode_in-requires : goal.decode_in-requires
 decode_in-requires g c =
     let s = c.args.self.now in
