@@ -74,7 +74,13 @@ impl fmt::Display for CollectorFault {
     ghost output = { λ f. Some (text f) };
 
     fn fmt<W: fmt::Write>(&self, f: &mut fmt::Formatter<W>) -> fmt::Result {
-        write!(f, "refused {} place {} row {}", self.number(), self.place(), self.row())
+        write!(
+            f,
+            "refused {} place {} row {}",
+            self.number(),
+            self.place(),
+            self.row()
+        )
     }
 }
 
