@@ -90,12 +90,12 @@ fn powers_of<F: Field>(
 
 // Compares the inverses of 0, 1, 2 and so on.
 fn compare_inverses<F: Field>(field: &F, expected: &[Option<u16>]) -> Tally {
-    let mut tally = Tally::default();
-    for (i, inverse) in expected.iter().enumerate() {
-        let number = u16::try_from(i).unwrap_or(u16::MAX);
-        tally = tally + Tally::of(field.inverse(number) == *inverse);
-    }
-    tally
+    let inverse_of = |i: usize| field.inverse(u16::try_from(i).unwrap_or(u16::MAX));
+    expected
+        .iter()
+        .enumerate()
+        .map(|(i, inverse)| Tally::of(inverse_of(i) == *inverse))
+        .fold(Tally::default(), |sum, tally| sum + tally)
 }
 
 // A question about a code, with what its block has set.
