@@ -33,7 +33,7 @@ pub struct RowFault {
 }
 
 impl CollectorFault {
-    // The number by which the fault is reported.
+    // The number by which the fault is reported, as C and the programs take it.
     pub fn number(self) -> u8
         ensures { result ≡ number self }
     {
@@ -48,7 +48,7 @@ impl CollectorFault {
         }
     }
 
-    // The place that the fault reports, or 0.
+    // The place that the fault reports, or 0, as C and the programs take it.
     pub fn place(self) -> usize
         ensures { result ≡ place self }
     {
@@ -58,7 +58,7 @@ impl CollectorFault {
         }
     }
 
-    // The row that the fault reports, or 0.
+    // The row that the fault reports, or 0, as C and the programs take it.
     pub fn row(self) -> usize
         ensures { result ≡ row self }
     {

@@ -1,8 +1,10 @@
-// The collector's table: at each of 128 places nothing, or a strip with room for 16 numbers.
+// The collector's table: at each of 128 places nothing, or a strip with room for 16 numbers. The collector allocates
+// nothing, so that no call fails for want of memory.
 ghost use Rattle.std.specs.Prelude.{◌≡◌, ℕ, ◌-◌, ◌<◌, ◌≤◌, ◌++◌, length, take, replicate, count_by, Some, None, slice_index_or, slice_set};
 ghost use Rattle.carrier.specs.Book.{filled};
 ghost use Rattle.carrier.specs.Sheets.{received, marks};
 
+// Its methods ask for a place below 128: the collector checks a place against its code's length once, before it asks.
 #[derive(Clone, Copy)]
 pub struct Table {
     strips: [Option<[u16; 16]>; 128],

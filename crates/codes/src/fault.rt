@@ -42,7 +42,7 @@ pub enum CodeFault {
 }
 
 impl FitnessFault {
-    // The number by which the fault is reported.
+    // The number by which the fault is reported, as C and the programs take it.
     pub fn number(self) -> u8
         ensures { result ≡ unfit_number self }
     {
@@ -57,7 +57,7 @@ impl FitnessFault {
         }
     }
 
-    // The place that the fault reports, or 0.
+    // The place that the fault reports, or 0, as C and the programs take it.
     pub fn place(self) -> usize
         ensures { result ≡ unfit_place self }
     {
@@ -69,7 +69,7 @@ impl FitnessFault {
 }
 
 impl CodeFault {
-    // The number by which the fault is reported.
+    // The number by which the fault is reported, as C and the programs take it.
     pub fn number(self) -> u8
         ensures { result ≡ number self }
     {
@@ -83,7 +83,7 @@ impl CodeFault {
         }
     }
 
-    // The place that the fault reports, or 0.
+    // The place that the fault reports, or 0, as C and the programs take it.
     pub fn place(self) -> usize
         ensures { result ≡ place self }
     {

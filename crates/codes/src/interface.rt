@@ -62,7 +62,7 @@ pub trait Code: Issuer {
         ensures { result ≡ need self.now };
 
     // Writes the message within reach of what was received, and answers its wrong count. A place whose mark is not 0 is
-    // missing, and its number is not looked at.
+    // missing, and its number is not looked at. The marks lie beside the numbers, as C hands them in.
     fn decode(
         &self,
         received: &[u16],

@@ -2,6 +2,8 @@
 ghost use Rattle.std.specs.Prelude.{◌≡◌, ℕ, List, length, replicate, slice_index};
 ghost use Rattle.codes.specs.Lists.{counting, filled};
 
+use std::convert::AsSlice;
+
 // A list that is asked for its numbers one by one.
 pub trait Numbers {
     ghost listed: { Self → List ℕ };
@@ -15,27 +17,16 @@ pub trait Numbers {
         ensures { result ≡ slice_index (listed self.now) i };
 }
 
-impl<'a> Numbers for &'a [u16] {
-    ghost listed = { λ s. s.now };
+// Numbers that lie in memory one after another.
+impl<L: AsSlice<u16>> Numbers for L {
+    ghost listed = { λ l. L.items l };
 
     fn count(&self) -> usize {
-        self.len()
+        self.as_slice().len()
     }
 
     fn at(&self, i: usize) -> u16 {
-        number_at(self, i)
-    }
-}
-
-impl Numbers for Vec<u16> {
-    ghost listed = { λ v. v.items };
-
-    fn count(&self) -> usize {
-        self.len()
-    }
-
-    fn at(&self, i: usize) -> u16 {
-        number_at(self, i)
+        self.as_slice().get(i).copied().unwrap_or(0)
     }
 }
 
@@ -70,21 +61,14 @@ impl Numbers for Upto {
     }
 }
 
-// The number at a place of a slice, and 0 past its end.
-fn number_at(numbers: &[u16], i: usize) -> u16
-    ensures { result ≡ slice_index numbers.now i }
-{
-    numbers.get(i).copied().unwrap_or(0)
-}
-
-// Room for the longest message or word.
+// Room for the longest message or word: nothing is allocated below the programs.
 pub fn blank() -> [u16; 128]
     ensures { result ≡ replicate 128 0 }
 {
     [0; 128]
 }
 
-// The first 128 numbers of a list, with zeros after a shorter one.
+// The first 128 numbers of a list, with zeros after a shorter one. A list is asked for each by its place.
 pub fn gather<P: Numbers>(list: &P) -> [u16; 128]
     ensures { result ≡ filled 128 (P.Numbers.listed list.now) }
 {

@@ -40,7 +40,7 @@ impl<'a> Bench<'a> {
         }
     }
 
-    // Goes on with the code that is set.
+    // Goes on with the code that is set. Each code and each layer is a type of its own, so each step is a generic function.
     fn with_field(&self, field: AnyField) -> io::Result<()> {
         match self.settings.code {
             Some(CodeChoice::Evaluation { k, points }) => {
@@ -83,6 +83,7 @@ impl<'a> Bench<'a> {
 
     // Answers line after line; what would set something after the first call is not understood.
     fn answer_lines<C: Code + Drop>(&self, mut session: Session<'_, C>) -> io::Result<()> {
+        // Blank and unknown lines stand before and after the first call, so a flag is no worse than two lists of lines.
         let mut called = false;
         for (i, line) in self.lines.iter().enumerate() {
             let answer = match line {

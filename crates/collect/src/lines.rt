@@ -19,7 +19,7 @@ pub enum Line {
     Blank,
     Setting(Setting),
     Call(Call),
-    // It is not understood.
+    // It is not understood; the answer of its place in the input says so.
     Unknown,
 }
 

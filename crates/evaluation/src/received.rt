@@ -1,7 +1,8 @@
 // A word that was received.
 ghost use Rattle.std.specs.Prelude.{◌≡◌, length};
 
-// A received word: for each point a number, and a mark that is not 0 where the number is missing.
+// A received word: for each point a number, and a mark that is not 0 where the number is missing, beside one another as
+// C hands them in.
 #[derive(Clone, Copy)]
 pub struct ReceivedWord<'a> {
     pub points: &'a [u16],

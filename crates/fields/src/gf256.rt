@@ -69,7 +69,7 @@ fn multiply_carryless(a: u8, b: u8) -> u16
 {
     let mut sum: u16 = 0;
     for i in 0..8u32 {
-        sum ^= (b as u16 >> i) % 2 * ((a as u16) << i);
+        sum ^= u16::from(b >> i) % 2 * (u16::from(a) << i);
     }
     sum
 }

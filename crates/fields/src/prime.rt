@@ -96,8 +96,8 @@ fn inverse_by(p: u16, a: u16) -> u16
     requires below { a < p }
     ensures { result ≡ partner p (λ x y. (x * y) % p) a }
 {
-    let q = p as u32;
-    let mut n = a as u32;
+    let q = u32::from(p);
+    let mut n = u32::from(a);
     let mut product: u32 = 1;
     while n > 1 {
         product = product * (q - q / n) % q;

@@ -21,7 +21,7 @@ pub enum FileFault {
 }
 
 impl FileFault {
-    // The number by which the fault is reported.
+    // The number by which the fault is reported, as C and the programs take it.
     pub fn number(self) -> u8
         ensures { result ≡ number self }
     {
@@ -34,7 +34,7 @@ impl FileFault {
         }
     }
 
-    // The place that the fault reports, or 0.
+    // The place that the fault reports, or 0, as C and the programs take it.
     pub fn place(self) -> usize
         ensures { result ≡ place self }
     {
@@ -44,7 +44,7 @@ impl FileFault {
         }
     }
 
-    // The row that the fault reports, or 0.
+    // The row that the fault reports, or 0, as C and the programs take it.
     pub fn row(self) -> usize
         ensures { result ≡ row self }
     {

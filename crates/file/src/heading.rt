@@ -3,7 +3,7 @@ ghost use Rattle.std.specs.Prelude.{◌≡◌, ◌+◌, ◌*◌};
 
 #[derive(Clone, Copy)]
 pub struct Heading {
-    // 1 for a prime field, 2 for GF(256).
+    // 1 for a prime field, 2 for GF(256). Any byte may come from a file or from C, so it is no enum.
     pub kind: u8,
     // The field's number: the modulus, or 285.
     pub modulus: u16,

@@ -17,7 +17,7 @@ pub struct Received {
     pub declined: usize,
     // How many of the numbers kept are wrong.
     pub wrong: usize,
-    // The sheet's rows one after another; what follows them says nothing.
+    // The sheet's rows one after another; what follows them says nothing. Nothing is allocated.
     sheet: [u16; 2048],
     ghost full: { length sheet ≡ 2048 },
 }

@@ -77,6 +77,7 @@ fn put_sheet<C: Issuer>(code: &C, depth: usize, sheet: &[u16], output: &mut [u8]
     ensures { output.new ≡ strips_bytes (strips_of_sheet (C.Issuer.meaning code.now) depth sheet.now) }
 {
     let n = code.length();
+    // The words of the largest sheet; nothing is allocated.
     let mut room = [0; 2048];
     let words = &mut room[..depth * n];
     issue_rows(code, depth, sheet, words);

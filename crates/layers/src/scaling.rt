@@ -44,7 +44,8 @@ fn divide<F: Field>(field: &F, by: u16, x: u16) -> u16
     field.multiply(inverse, x)
 }
 
-// The numbers at unmarked places divided by their multipliers, and 0 at the others, at the front of an array.
+// The numbers at unmarked places divided by their multipliers, and 0 at the others, at the front of an array: nothing is
+// allocated here.
 pub fn divide_word<F: Field, M: Numbers>(
     field: &F,
     multipliers: &M,

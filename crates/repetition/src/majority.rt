@@ -33,7 +33,8 @@ fn count_wrong(received: &[u16], marks: &[u8], number: u16) -> usize
     ensures few { result ≤ length received.now }
 {
     let mut count: usize = 0;
-    // A rule of the project: wrong numbers are counted over the marks, by index.
+    // A rule of the project: wrong numbers are counted over the marks, by index. The evaluation code counts its own, since it
+    // computes each number of the word where it is compared.
     for (i, mark) in marks.iter().enumerate() {
         if *mark == 0 && received[i] != number {
             count += 1;

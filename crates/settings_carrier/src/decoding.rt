@@ -33,6 +33,7 @@ pub extern "C" fn carrier_decode(
         k,
         depth: 1,
     };
+    // What the decoder of the longest code needs; nothing is allocated.
     let mut scratch = [0; 16899];
     let outcome = decode_by(&heading, received, marks, message, &mut scratch);
     tell(outcome, tally)

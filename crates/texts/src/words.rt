@@ -70,7 +70,8 @@ impl<'a> Words<'a> {
         Ok(self.word()?.parse::<T>()?)
     }
 
-    // The field that the next words name, `gf256` or `prime` and a modulus, or why there is none of that modulus.
+    // The field that the next words name, `gf256` or `prime` and a modulus, or why there is none of that modulus: that is an
+    // answer of its own, and no line that is not understood.
     pub fn field(&mut self) -> Result<Result<AnyField, FieldFault>, LineFault>
         ensures { NamesField ⟦<u16 as FromStr>⟧.from_str_gives self.old.left self.new.left result }
     {

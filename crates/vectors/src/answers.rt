@@ -160,7 +160,7 @@ impl Asking<'_> {
     }
 }
 
-// The word of a message, or why it has none.
+// The word of a message, or why it has none: a refusal is an answer to compare, a lack of memory ends the program.
 fn issue<C: Code>(
     heap: Global,
     code: &C,

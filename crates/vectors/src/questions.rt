@@ -6,6 +6,7 @@ ghost use Rattle.vectors.specs.declared.questions.Answer.TheVariants.{Accepted, 
 #[derive(Drop)]
 pub enum Answer {
     Accepted,
+    // A refusal by its number, as the text has it.
     Refused(u8),
     Message { message: Vec<u16>, wrong: usize },
 }

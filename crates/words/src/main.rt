@@ -122,8 +122,9 @@ impl Bench<'_> {
             Some("points") => self.points = numbers(heap, &self.field, words)?,
             Some("message") => {
                 let message = numbers(heap, &self.field, words)?;
-                let word = word_of(heap, &self.field, &self.points, &message)
-                    .map_err(io::Error::from)?;
+                let word = word_of(heap, &self.field, &self.points, &message).map_err(
+                    io::Error::from,
+                )?;
                 println!(self.rt; "word{}", Spaced(&word))?;
             }
             Some(_) => return Err(Trouble::Unknown),

@@ -11,7 +11,8 @@ use codes::interface::{Code, Issuer};
 
 impl<C: Code> Collector<C> {
     // Writes the sheet, row after row, and answers how many of the kept numbers are wrong; a refusal writes nothing.
-    // The rows are decoded into a second sheet, so that a refused row leaves the first as it was.
+    // The rows are decoded into a second sheet, so that a refused row leaves the first as it was; it is a local array, since
+    // nothing is allocated.
     pub fn read(&self, sheet: &mut [u16], scratch: &mut [u16]) -> Result<usize, CollectorFault>
         ensures answer { Read C.Issuer C.Code.own self.now sheet.old sheet.new scratch.old scratch.new result }
         ensures run { Reads C.Issuer C.Code.own self.now sheet.old sheet.new scratch.old result }

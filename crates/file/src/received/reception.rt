@@ -23,7 +23,7 @@ pub fn receive(file: &[u8]) -> Result<Received, FileFault>
     let reader = read(file)?;
     let heading = reader.heading();
     let size = heading.size();
-    // The largest sheet, and what the decoder of the longest code needs.
+    // The largest sheet, and what the decoder of the longest code needs; nothing is allocated.
     let mut sheet = [0; 2048];
     let mut scratch = [0; 16899];
     let outcome = collect_from(&reader, &mut sheet[..size], &mut scratch)?;
