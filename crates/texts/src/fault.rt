@@ -1,5 +1,5 @@
 // Why a line is not read.
-ghost use Rattle.std.specs.Prelude.{◌≡◌};
+ghost use Rattle.std.specs.Prelude.{◌≡◌, alloc_error};
 ghost use Rattle.texts.specs.Understood.{understood_of};
 ghost use Rattle.texts.specs.declared.fault.LineFault.TheVariants.{Unknown, Memory};
 
@@ -11,24 +11,24 @@ pub enum LineFault {
     // A word is missing, or is one too many, or is not what has to stand there.
     Unknown,
     // There is no memory for what the line says.
-    Memory,
+    Memory(AllocError),
 }
 
 // Where there is no memory, the line is not read.
 impl From<AllocError> for LineFault {
-    ghost from_gives = { λ _ r. r ≡ Memory };
+    ghost from_gives = { λ e r. r ≡ Memory e };
 
-    fn from(_error: AllocError) -> LineFault {
-        LineFault::Memory
+    fn from(error: AllocError) -> LineFault {
+        LineFault::Memory(error)
     }
 }
 
 // Where there is no memory for an item, the line is not read.
 impl<T: Drop> From<AllocFailed<T>> for LineFault {
-    ghost from_gives = { λ _ r. r ≡ Memory };
+    ghost from_gives = { λ _ r. r ≡ Memory alloc_error };
 
-    fn from(_error: AllocFailed<T>) -> LineFault {
-        LineFault::Memory
+    fn from(error: AllocFailed<T>) -> LineFault {
+        LineFault::Memory(AllocError::from(error))
     }
 }
 
@@ -48,6 +48,6 @@ pub fn understood<T>(read: Result<T, LineFault>) -> Result<Option<T>, AllocError
     match read {
         Ok(value) => Ok(Some(value)),
         Err(LineFault::Unknown) => Ok(None),
-        Err(LineFault::Memory) => Err(AllocError),
+        Err(LineFault::Memory(error)) => Err(error),
     }
 }

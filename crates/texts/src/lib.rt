@@ -4,4 +4,6 @@
 
 pub mod fault;
 pub mod spaced;
+#[cfg(test)]
+mod tests;
 pub mod words;

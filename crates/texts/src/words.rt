@@ -1,12 +1,10 @@
 // The words of a line, taken one after another.
-ghost use Rattle.std.specs.Prelude.{◌≡◌, ℕ, List, length, IfOk, IfErr, OnOk};
+ghost use Rattle.std.specs.Prelude.{◌≡◌, ℕ, length, IfOk, IfErr};
 ghost use Rattle.std.specs.Iterator.{at_most};
 ghost use Rattle.std.specs.Result.{result_ok};
-ghost use Rattle.std.specs.Str.{NoCharPasses};
-ghost use Rattle.std.specs.Char.{is_not_whitespace};
 ghost use Rattle.std.specs.Str.Iter.{split_whitespace_steps, split_whitespace_rest};
 ghost use Rattle.texts.specs.Lone.{lone};
-ghost use Rattle.texts.specs.Words.{FirstWord};
+ghost use Rattle.texts.specs.Words.{Expected, Numbered, NamesField, Ended, AllNumbers, NotAllNumbers};
 ghost use Rattle.texts.specs.declared.fault.LineFault.TheVariants.{Unknown};
 
 use crate::fault::LineFault;
@@ -56,8 +54,7 @@ impl<'a> Words<'a> {
 
     // The next word, which has to be this one.
     pub fn expect(&mut self, name: &str) -> Result<(), LineFault>
-        ensures there { OnOk result (FirstWord self.old.left name.now self.new.left) }
-        ensures lacking { IfErr result (λ e. e ≡ Unknown) }
+        ensures { Expected self.old.left name.now self.new.left result }
     {
         if self.word()? == name {
             Ok(())
@@ -68,13 +65,15 @@ impl<'a> Words<'a> {
 
     // The next word as a number.
     pub fn number<T: FromStr<Err = ParseIntError>>(&mut self) -> Result<T, LineFault>
-        ensures { IfOk result (λ n. (w : List ℕ) × FirstWord self.old.left w self.new.left × T.from_str_gives w (Ok n)) }
+        ensures { Numbered T.from_str_gives self.old.left self.new.left result }
     {
         Ok(self.word()?.parse::<T>()?)
     }
 
-    // The field that the next words name, or why there is none of its modulus.
-    pub fn field(&mut self) -> Result<Result<AnyField, FieldFault>, LineFault> {
+    // The field that the next words name, `gf256` or `prime` and a modulus, or why there is none of that modulus.
+    pub fn field(&mut self) -> Result<Result<AnyField, FieldFault>, LineFault>
+        ensures { NamesField ⟦<u16 as FromStr>⟧.from_str_gives self.old.left self.new.left result }
+    {
         match self.word()? {
             "gf256" => Ok(Ok(AnyField::from(Gf256::new()))),
             "prime" => Ok(Prime::new(self.number()?).map(AnyField::from)),
@@ -84,7 +83,7 @@ impl<'a> Words<'a> {
 
     // No word is left.
     pub fn end(&mut self) -> Result<(), LineFault>
-        ensures { OnOk result (NoCharPasses is_not_whitespace (split_whitespace_rest self.old.left)) }
+        ensures { Ended self.old.left self.new.left result }
     {
         match self.next() {
             None => Ok(()),
@@ -93,8 +92,15 @@ impl<'a> Words<'a> {
     }
 
     // The words that are left, as numbers.
-    pub fn numbers(self, heap: Global) -> Result<Vec<u16>, LineFault> {
-        self.map(|word| Ok(word.parse::<u16>()?)).try_collect(heap)
+    pub fn numbers(self, heap: Global) -> Result<Vec<u16>, LineFault>
+        ensures read { IfOk result (λ v. AllNumbers self.entry.left v.items) }
+        ensures refused { IfErr result (λ e. e ≡ Unknown → NotAllNumbers self.entry.left) }
+    {
+        let mut numbers = Vec::new(heap);
+        for word in self.left {
+            numbers.push(word.parse::<u16>()?)?;
+        }
+        Ok(numbers)
     }
 }
 
