@@ -1,7 +1,6 @@
 -- Lemmas of the repetition code and its decoder.
-use Rattle.std.proofs.Common.{◌≡◌, ℕ, zero, suc, ◌+◌, ◌<◌, ◌≤◌, cond, eqb, List, [], ◌∷◌, length, get_or, set, replicate, Ok, sym, refl, ap, ◌∙◌, subst, arith}
+use Rattle.std.proofs.Common.{◌≡◌, ℕ, suc, ◌+◌, ◌<◌, ◌≤◌, cond, eqb, List, [], ◌∷◌, length, get_or, set, replicate, Ok, sym, refl, ap, ◌∙◌, subst, arith}
 use Rattle.std.proofs.lemmas.Bool.Decides.{nat_tests}
-use Rattle.codes.proofs.Passed.{unmarked_below}
 use Rattle.codes.specs.Checks.{unmarked_check}
 use Rattle.codes.specs.Meaning.{Solved}
 use Rattle.codes.specs.Words.{wrong, missing}
@@ -34,30 +33,6 @@ pub record Left (q : ℕ) (rs ms xs ns : List ℕ) : Type 0 where
   pub checked : unmarked_check q place xs ns ≡ Ok tt
   -- where none of them is near, none of all is
   pub none : NoneNear rs ms xs ns → NoneNear rs ms rs ms
-
-none-more : (rs ms xs ns : List ℕ) (x n : ℕ) → (n ≡ 0 → Near rs ms x → ⊥) → NoneNear rs ms xs ns → NoneNear rs ms (x ∷ xs) (n ∷ ns)
-none-more rs ms xs ns x n here rest zero h e near = here e near
-none-more rs ms xs ns x n here rest (suc j) h e near = rest j (omega arith) e near
-
-rest-checked : (q i x n : ℕ) (xs ns : List ℕ) → unmarked_check q i (x ∷ xs) (n ∷ ns) ≡ Ok tt → unmarked_check q (i + 1) xs ns ≡ Ok tt
-rest-checked q i x n xs ns e = grind (arith, nat_tests)
-
--- one number fewer is left, which is marked or not near
-pub left-fewer : (q : ℕ) (rs ms xs ns xs' ns' : List ℕ) (x n : ℕ) → xs ≡ x ∷ xs' → ns ≡ n ∷ ns' → (n ≡ 0 → Near rs ms x → ⊥) → Left q rs ms xs ns → Left q rs ms xs' ns'
-left-fewer q rs ms xs ns xs' ns' x n ex en here l =
-    let k : Left q rs ms (x ∷ xs') (n ∷ ns') = subst (Left q rs ms (x ∷ xs')) en (subst (λ ys. Left q rs ms ys ns) ex l) in
-    record {
-      same = omega (arith, k.same);
-      place = k.place + 1;
-      checked = rest-checked q k.place x n xs' ns' k.checked;
-      none = λ h. k.none (none-more rs ms xs' ns' x n here h);
-    }
-
--- the first number that is left is below the order, where it is not marked
-pub left-below : (q : ℕ) (rs ms xs ns xs' ns' : List ℕ) (x n : ℕ) → xs ≡ x ∷ xs' → ns ≡ n ∷ ns' → n ≡ 0 → Left q rs ms xs ns → x < q
-left-below q rs ms xs ns xs' ns' x n ex en z l =
-    let k : Left q rs ms (x ∷ xs') (n ∷ ns') = subst (Left q rs ms (x ∷ xs')) en (subst (λ ys. Left q rs ms ys ns) ex l) in
-    unmarked_below q k.place (x ∷ xs') (n ∷ ns') k.checked k.same 0 (omega arith) z
 
 -- where no received number is near, none is
 pub none_near : (rs ms : List ℕ) → length rs ≡ length ms → NoneNear rs ms rs ms → (x : ℕ) → Near rs ms x → ⊥

@@ -1,20 +1,10 @@
-use Rattle.std.proofs.Common.{◌<◌, ◌≤◌, length, take, sym, ◌∙◌, arith}
-use Rattle.std.proofs.ByRecursion.{All-get_or}
+use Rattle.std.proofs.Common.{◌<◌, length, take, sym, ◌∙◌, arith}
 use Rattle.std.proofs.lemmas.List.{ext_get_or, get_or-take, length-take-le}
 use Rattle.fields.specs.Arithmetic.{total}
 use Rattle.layers.specs.Scaled.{quotients}
 use Rattle.layers.specs.Products.{none_written, more_written, same_written, quotient_at, at-unmarked, at-marked, length-quotients, get_or-quotients}
 use Rattle.layers.proofs.scaling.divide_word.Goals as goal
 use Rattle.layers.proofs.scaling.divide_word.Goals.{then-mark-eq0, else-mark-eq0}
-
-pub divide-requires : goal.divide-requires
-divide-requires g c =
-    let q = (g.F.Field.arithmetic c.args.field.now).order in
-    let xs = g.M.Numbers.listed c.args.multipliers.now in
-    let u = All-get_or (λ x. (1 ≤ x) × (x < q)) xs c.loop-i.i 0 (omega arith) c.requires.units in
-    let a = u.0 in
-    let b = u.1 in
-    record { nonzero = omega arith; below = omega arith }
 
 pub loop-i-init : goal.loop-i-init
 loop-i-init g c = none_written 128 _ c.blank-word.result c.blank-word.ensures
