@@ -64,6 +64,7 @@ impl<C: Code> Session<'_, C> {
     // Issues a message's word.
     fn issue(&self, message: &[u16]) -> Result<(), Refusal> {
         let code = self.collector.code();
+        // Room for the longest word: an array needs no case for memory that lacks.
         let mut room = [0; 128];
         let word = &mut room[..code.length().min(128)];
         code.issue(message, word)?;

@@ -107,7 +107,8 @@ struct Asking<'a> {
 }
 
 impl Asking<'_> {
-    // Goes on with the code that is set over a field.
+    // Goes on with the code that is set over a field. Each code and each layer is a type of its own, so each step is a generic
+    // function.
     fn with_field(&self, field: AnyField) -> Result<Tally, LineFault> {
         if let Some(length) = self.settings.repetition {
             let code = Repetition::new(field.order(), usize::from(length));

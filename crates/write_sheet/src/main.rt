@@ -64,7 +64,7 @@ fn sheet_of(heap: Global, lines: Lines<'_>) -> Result<Vec<u16>, LineFault> {
 
 // Writes the file of a sheet to standard output, or why there is none to standard error.
 fn write_file(rt: &HostRuntime, heading: &Heading, sheet: &[u16]) -> io::Result<()> {
-    // room for the longest file: 128 strips of 16 numbers, and the trailer
+    // Room for the longest file, 128 strips of 16 numbers and the trailer: an array needs no case for memory that lacks.
     let mut output = [0; 4232];
     match write(heading, sheet, &mut output) {
         Ok(size) => rt.stdout().write_all(&output[..size.min(4232)]),
