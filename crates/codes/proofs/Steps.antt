@@ -5,9 +5,9 @@ use Rattle.std.proofs.lemmas.Bool.{leb-false, ltb-false}
 use Rattle.std.proofs.lemmas.Iterator.Adapters.{position_from-zero}
 use Rattle.std.specs.List.{position_from}
 use Rattle.fields.specs.Checks.{unless, unless_found, stray}
-use Rattle.codes.specs.Checks.{number_check, unmarked_check, zero_check}
+use Rattle.codes.specs.Checks.{number_check, unmarked_check}
 use Rattle.codes.specs.Words.{missing, wrong}
-use Rattle.codes.specs.declared.fault.CodeFault.TheVariants.{Number, Reach}
+use Rattle.codes.specs.declared.fault.CodeFault.TheVariants.{Number}
 
 found-from : (q i : ℕ) (xs : List ℕ) → number_check q i xs ≡ unless_found (position_from (λ x. leb q x) i xs) Number (Ok tt)
 found-from q i [] = refl
@@ -41,6 +41,3 @@ unmarked_end q i [] ms h = refl
 unmarked_end q i (x ∷ xs) [] h = refl
 unmarked_end q i (x ∷ xs) (m ∷ ms) (inl e) = absurd (omega arith)
 unmarked_end q i (x ∷ xs) (m ∷ ms) (inr e) = absurd (omega arith)
-
-pub zeros_more : (xs : List ℕ) (i : ℕ) → i < length xs → zero_check (drop i xs) ≡ unless (eqb (get_or xs i 0) 0) Reach (zero_check (drop (i + 1) xs))
-zeros_more xs i h = at_drop_more zero_check xs i 0 h

@@ -33,6 +33,7 @@ pub fn count_missing(marks: &[u8]) -> usize
     ensures { result ≡ missing marks.now }
 {
     let mut count: usize = 0;
+    // A rule of the project: missing places are counted by a loop over the marks.
     for mark in marks {
         if *mark != 0 {
             count += 1;

@@ -61,7 +61,7 @@ impl Numbers for Upto {
     }
 }
 
-// Room for the longest message or word: nothing is allocated below the programs.
+// Room for the longest message or word: no code allocates.
 pub fn blank() -> [u16; 128]
     ensures { result ≡ replicate 128 0 }
 {

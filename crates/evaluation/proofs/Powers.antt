@@ -1,7 +1,5 @@
 -- The numbers of an equation's row.
-use Rattle.std.proofs.Common.{◌≡◌, ℕ, zero, suc, ◌+◌, ◌<◌, ◌≤◌, List, [], ◌∷◌, ◌++◌, length, get_or, drop, sym, refl, ap, ◌∙◌, ap₂, arith}
-use borrow.Rule.Slice.PartMut.{put_mid}
-use Rattle.std.proofs.lemmas.List.{take_at, drop_at, drop_all}
+use Rattle.std.proofs.Common.{◌≡◌, ℕ, zero, suc, ◌+◌, ◌<◌, length, get_or, sym, refl, ap, ◌∙◌, arith}
 use Rattle.fields.specs.Arithmetic.{Arithmetic}
 use Rattle.evaluation.specs.Decoding.{power, powers}
 
@@ -20,12 +18,3 @@ get_or-powers F (suc n) c x (suc i) h = get_or-powers F n (F.times c x) x i (ome
 pub length-powers : (F : Arithmetic) (n c x : ℕ) → length (powers F c x n) ≡ n
 length-powers F zero c x = refl
 length-powers F (suc n) c x = ap suc (length-powers F n (F.times c x) x)
-
-append-nil : (ys : List ℕ) → ys ++ [] ≡ ys
-append-nil [] = refl
-append-nil (y ∷ ys) = ap (λ t. y ∷ t) (append-nil ys)
-
--- a row written in two parts
-pub two-parts : (a k : ℕ) (ps zs rs : List ℕ) → length ps ≡ a → length zs ≤ k → put_mid a k (ps ++ zs) rs ≡ ps ++ rs
-two-parts a k ps zs rs e h =
-    ap₂ ◌++◌ (take_at ps zs a e) (ap (λ t. rs ++ t) (ap (drop k) (drop_at ps zs a e) ∙ drop_all k zs h) ∙ append-nil rs)

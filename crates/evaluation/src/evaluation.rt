@@ -73,7 +73,7 @@ impl<F: Field, P: Numbers> Issuer for Evaluation<F, P> {
     }
 
     fn distance(&self) -> usize {
-        (usize::from(self.length)).saturating_sub(usize::from(self.dimension)) + 1
+        usize::from(self.length).saturating_sub(usize::from(self.dimension)) + 1
     }
 
     fn issue(&self, message: &[u16], word: &mut [u16]) -> Result<(), CodeFault> {

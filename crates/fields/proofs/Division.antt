@@ -1,5 +1,5 @@
 -- The remainder by the polynomial 285 is the only one, and the code's steps toward it.
-use Rattle.std.proofs.Common.{◌≡◌, ℕ, zero, suc, ◌+◌, ◌-◌, ◌*◌, ◌/◌, ◌%◌, ◌^◌, ◌<◌, ◌≤◌, Bool, ◌&&◌, T, eqb, ltb, leb, List, [], ◌∷◌, get_or, sym, refl, ap, ◌∙◌, subst, lt_of_lt_of_le, mul-le-mul_right, mod-lt, mod-eq_of_lt, one-mul, add-one, arith, eqb→eq, ltb→lt, leb→le, shl_lt}
+use Rattle.std.proofs.Common.{◌≡◌, ℕ, zero, suc, ◌+◌, ◌-◌, ◌*◌, ◌/◌, ◌%◌, ◌^◌, ◌<◌, ◌≤◌, Bool, ◌&&◌, T, eqb, ltb, leb, List, [], ◌∷◌, get_or, sym, refl, ap, ◌∙◌, subst, lt_of_lt_of_le, mod-eq_of_lt, arith, eqb→eq, ltb→lt, leb→le, shl_lt}
 use native.Mathlib.Nat.{pow-le-pow_right}
 use lib.Bits.{bit_xor, xor_zero_l, xor_zero_r, xor_assoc, xor_self, xor_lt}
 use Rattle.fields.specs.Binary.{carryless, remainder, Remains}
@@ -93,20 +93,6 @@ remains x h =
 
 pub shift_below : (j a i : ℕ) → a < 2 ^ j → j + i ≤ 16 → a * 2 ^ i < 65536
 shift_below j a i h few = lt_of_lt_of_le (shl_lt j i h) (pow-le-pow_right {n = 2} (omega arith) few)
-
-pub term_below : (p j a i : ℕ) → p < 2 → a < 2 ^ j → j + i ≤ 16 → p * (a * 2 ^ i % 65536) < 65536
-term_below p j a i hp h few =
-    let x = a * 2 ^ i % 65536 in
-    let hx : x < 65536 = mod-lt (a * 2 ^ i) (omega arith) in
-    let le : p ≤ 1 = omega arith in
-    omega (arith, mul-le-mul_right x le, one-mul x)
-
-pub carryless-step : (a b i s : ℕ) → a < 256 → i < 8 → s ≡ carryless i a b
-    → bit_xor s (b / 2 ^ i % 2 * (a * 2 ^ i % 65536)) ≡ carryless (i + 1) a b
-carryless-step a b i s ha hi e =
-    let kept : a * 2 ^ i % 65536 ≡ a * 2 ^ i = mod-eq_of_lt (shift_below 8 a i ha (omega arith)) in
-    ap (λ k. bit_xor k (b / 2 ^ i % 2 * (a * 2 ^ i % 65536))) e ∙ ap (λ k. bit_xor (carryless i a b) (b / 2 ^ i % 2 * k)) kept
-    ∙ ap (λ k. carryless k a b) (sym (add-one i))
 
 pub remainder-step : (p x y i : ℕ) → p < 512 → 0 < i → i ≤ 8 → remainder p i y ≡ remainder p 8 x
     → remainder p (i - 1) (bit_xor y (y / 2 ^ (8 + (i - 1)) % 2 * (p * 2 ^ (i - 1) % 65536))) ≡ remainder p 8 x

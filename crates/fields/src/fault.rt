@@ -11,7 +11,7 @@ pub enum FieldFault {
 }
 
 impl FieldFault {
-    // The number by which the fault is reported, as C and the programs take it.
+    // The number by which the fault is reported, as the programs take it.
     pub fn number(self) -> u8
         ensures { result ≡ number self }
     {

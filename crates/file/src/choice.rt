@@ -1,10 +1,12 @@
 // The code that a heading asks for, of one type or the other by the heading's field byte.
 ghost use Rattle.std.specs.Prelude.{◌≡◌};
+ghost use Rattle.carrier.specs.Checks.{fit_check};
 ghost use Rattle.file.specs.Lawful.{sound_in, need_few};
 ghost use Rattle.file.specs.Meant.{Chosen, meaning_in, need_of};
 
 use crate::fault::FileFault;
 use crate::heading::Heading;
+use carrier::fault::CollectorFault;
 pub use carrier::fitness::check_fitness;
 use codes::fault::{CodeFault, FitnessFault};
 use codes::interface::{Code, Issuer};
@@ -40,6 +42,13 @@ impl FileCode {
             }
             _ => Err(FileFault::Field),
         }
+    }
+
+    // Whether a collector of the code and the depth is fit, and if not, why.
+    pub fn fitness(&self, depth: usize) -> Result<(), CollectorFault>
+        ensures { result ≡ fit_check (meaning_in self.now) depth }
+    {
+        check_fitness(self, depth)
     }
 }
 

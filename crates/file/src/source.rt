@@ -68,7 +68,7 @@ pub fn deliver_all<C: Code, S: StripSource>(collector: &mut Collector<C>, source
     ensures code { collector.new.code ≡ collector.old.code }
     ensures depth { collector.new.depth ≡ collector.old.depth }
 {
-    // The longest strip of a source; nothing is allocated.
+    // Room for the longest strip of a source; nothing is allocated.
     let mut buffer = [0; 256];
     let depth = usize::from(source.depth());
     let mut declined: usize = 0;

@@ -127,7 +127,7 @@ impl Words<'_> {
         ensures { let x = self.now in output.new ≡ strip_bytes (strip_by (λ r j. slice_index x.numbers.now (r * x.long + j)) x.depth place) }
     {
         output[0] = place as u8;
-        // The numbers are written by row, for the same reason.
+        // The numbers are written by row: of what is written through `chunks_exact_mut` a proof knows nothing afterwards.
         for row in 0..self.depth {
             let [high, low] = self.numbers[row * self.long + place].to_be_bytes();
             output[1 + 2 * row] = high;

@@ -1,15 +1,14 @@
 -- Rows of w numbers one after another.
-use Rattle.std.proofs.Common.{◌≡◌, ℕ, suc, ◌+◌, ◌-◌, ◌*◌, ◌/◌, ◌<◌, ◌≤◌, ◌≢◌, Some, None, Option, List, ◌++◌, length, get_or, take, drop, sym, ap, ◌∙◌, subst, ap₂, mul-le-mul_right, suc-mul, zero-mul, arith, below_more}
+use Rattle.std.proofs.Common.{◌≡◌, ℕ, suc, ◌+◌, ◌-◌, ◌*◌, ◌/◌, ◌<◌, ◌≤◌, ◌≢◌, Some, None, Option, List, ◌++◌, length, get_or, take, drop, sym, ap, ◌∙◌, subst, mul-le-mul_right, suc-mul, zero-mul, arith, below_more}
 use native.Mathlib.Decide.{dec_lt}
 use borrow.Rule.Slice.PartMut.{put_mid}
 use Rattle.std.proofs.Math.Nat.{mul-div_cancel}
 use Rattle.std.proofs.ByRecursion.{All-take, All-drop}
-use Rattle.std.proofs.lemmas.List.{drop_more, drop-take, get_or-take, get_or-drop, drop-drop, drop_at, take_at, take-take, take-append-le, drop-append-le, length-take-le, length-drop}
+use Rattle.std.proofs.lemmas.List.{drop-take, get_or-take, get_or-drop, drop-drop, drop_at, take_at, take-take, take-append-le, drop-append-le, length-take-le, length-drop}
 use Rattle.std.proofs.lemmas.Slice.{take-put_mid_below, drop-put_mid}
-use Rattle.fields.specs.Arithmetic.{Arithmetic}
 use Rattle.fields.specs.Numbers.{Below}
 use Rattle.std.specs.Option.{MatchOption}
-use Rattle.linear.specs.Equations.{height, row, dot, Pivot}
+use Rattle.linear.specs.Equations.{height, row, Pivot}
 
 -- row k ends before row n begins
 pub row_ends : (k n w : ℕ) → k < n → k * w + w ≤ n * w
@@ -48,12 +47,6 @@ rows_more G w k d s old ys width h e is done left = (
   below_more (λ j. row w j (put_mid (k * w) d s ys) ≡ G j) k (λ j lt. row_other w k d j s ys width h e (omega arith) ∙ done j lt) (row_same w k d s ys h e ∙ is),
   λ j le. row_other w k d j s ys width h e (omega arith) ∙ left j (omega arith),
 )
-
--- the sum of products, a step down from j to i
-pub dot-more : (F : Arithmetic) (a b : List ℕ) (i j s : ℕ) → i < length a → i < length b → j ≡ i + 1 → s ≡ dot F (drop j a) (drop j b) → F.plus (F.times (get_or a i 0) (get_or b i 0)) s ≡ dot F (drop i a) (drop i b)
-dot-more F a b i j s ha hb e is =
-    ap (λ w. F.plus (F.times (get_or a i 0) (get_or b i 0)) w) (is ∙ ap (λ n. dot F (drop n a) (drop n b)) e)
-    ∙ sym (ap₂ (dot F) (drop_more a i 0 ha) (drop_more b i 0 hb))
 
 -- a first row before the others
 pub row_zero : (w : ℕ) (s : List ℕ) → row w 0 s ≡ take w s

@@ -3,7 +3,6 @@ use Rattle.std.specs.Prelude.{◌≡◌, ℕ, ◌+◌, ◌<◌, ◌≢◌, List,
 use Rattle.fields.specs.Arithmetic.{Arithmetic}
 use Rattle.fields.specs.Numbers.{Below, Zeros}
 use Rattle.fields.specs.Checks.{Check, unless, and_then, unless_found, stray}
-use Rattle.fields.specs.Checks.{Check, unless, and_then, unless_found, stray}
 use Rattle.linear.specs.Checks.{nonzero}
 use Rattle.linear.specs.Polynomials.{value, added, product, Same}
 use Rattle.linear.specs.declared.fault.DivideFault.{DivideFault}

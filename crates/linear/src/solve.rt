@@ -99,7 +99,7 @@ fn place_pivot<F: Field>(f: &F, rows: &mut [u16], spare: &mut [u16], c: usize) -
     true
 }
 
-// The first of the rows of `w` numbers with a number other than 0 in column `c`.
+// The first of the rows of `w` numbers with a number other than 0 in column `c`, by its number among them.
 fn find_pivot(rows: &[u16], w: usize, c: usize) -> Option<usize>
     requires whole { height w rows.now * w ≡ length rows.now }
     requires column { c < w }

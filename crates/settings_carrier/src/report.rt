@@ -10,7 +10,7 @@ use file::received::Received;
 #[repr(C)]
 #[derive(Clone, Copy, PartialEq, Eq, Debug, Default)]
 pub struct Report {
-    // 1 for a prime field, 2 for GF(256), as C hands it in.
+    // 1 for a prime field, 2 for GF(256), as C takes it.
     pub kind: u8,
     // How many numbers a word has.
     pub n: u8,

@@ -21,9 +21,9 @@ pub fn write_points<F: Field>(f: &F, g: u16, points: &mut [u16])
     ensures { Points (operations F.Field f.now) g points.new }
 {
     let mut p = 1;
-    // The points are written by place: of what is written through `iter_mut().rev()` a proof knows nothing afterwards.
-    for j in (0..points.len()).rev() {
-        points[j] = p;
+    for x in points.iter_mut() {
+        *x = p;
         p = f.multiply(p, g);
     }
+    points.reverse();
 }

@@ -3,7 +3,7 @@ ghost use Rattle.std.specs.Prelude.{◌≡◌, ℕ, ◌<◌};
 ghost use Rattle.vectors.specs.Rows.{Counted, Ended};
 
 use crate::answers::ask;
-use crate::lines::{Line, parse_line};
+use crate::lines::Line;
 use crate::settings::Settings;
 use crate::tally::Tally;
 use std::io;
@@ -40,10 +40,10 @@ impl<'a> Bench<'a> {
         )
     }
 
-    // Takes one more line.
-    pub fn take(&mut self, at: usize, text: &str) -> io::Result<()> {
+    // Takes one more line, or nothing where it is not understood.
+    pub fn take(&mut self, at: usize, line: Option<Line>) -> io::Result<()> {
         let heap = self.rt.alloc();
-        let Some(line) = understood(parse_line(heap, text))? else {
+        let Some(line) = line else {
             return self.count(at, None);
         };
         match line {

@@ -28,7 +28,9 @@
 #![tactic(auto)]
 
 use bench::Bench;
+use lines::parse_line;
 use std::io;
+use texts::fault::understood;
 
 mod answers;
 mod bench;
@@ -44,7 +46,8 @@ fn main(rt: HostRuntime) -> anyhow::Result<()> {
     let mut bench = Bench::new(&rt);
     bench.begin()?;
     for (i, line) in text.as_str().lines().enumerate() {
-        bench.take(i.saturating_add(1), line)?;
+        let read = understood(parse_line(rt.alloc(), line))?;
+        bench.take(i.saturating_add(1), read)?;
     }
     bench.finish()?;
     Ok(())

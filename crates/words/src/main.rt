@@ -32,7 +32,7 @@ enum Trouble {
     Number { number: u16, order: u32 },
     // There is no memory for its numbers.
     Memory,
-    // The answer is not printed.
+    // The answer is not made, or not printed.
     Output(io::Error),
 }
 

@@ -7,6 +7,7 @@ use crate::entries::{all_present, marks_of};
 use crate::questions::Answer;
 use crate::settings::Settings;
 use crate::tally::Tally;
+use codes::fault::CodeFault;
 use codes::checks::count_missing;
 use codes::interface::{Code, Issuer};
 use evaluation::Evaluation;
@@ -14,9 +15,6 @@ use layers::Scaled;
 use std::alloc::{AllocError, Global};
 use symbols::{write_multipliers, write_points};
 use texts::fault::LineFault;
-
-// The number by which a code refuses what is not within reach.
-const NOT_WITHIN_REACH: u8 = 13;
 
 // Decodes the symbol that is set as it was made and as it was received; its code has to have multipliers.
 pub fn ask_symbol(
@@ -83,7 +81,7 @@ fn compare_lost<C: Code>(
     ensures { IfOk result (λ t. t.differing ≡ 0 → Lost (C.Issuer.meaning code.now) received.now) }
 {
     match decode(heap, code, received)? {
-        Answer::Refused(number) => Ok(Tally::of(number == NOT_WITHIN_REACH)),
+        Answer::Refused(number) => Ok(Tally::of(number == CodeFault::Reach.number())),
         _ => Ok(Tally::of(false)),
     }
 }

@@ -1,10 +1,9 @@
-use Rattle.std.proofs.Common.{◌≡◌, ◌-◌, length}
+use Rattle.std.proofs.Common.{◌≡◌, ℕ, ◌<◌, get_or}
 use Rattle.linear.specs.Operations.{operations}
 use Rattle.symbols.specs.Symbols.{power}
-use Rattle.symbols.proofs.Steps.{PointsFrom}
 use Rattle.symbols.proofs.powers.write_points.Given as goal
 
-abbrev pub invariant-loop-j : goal.invariant-loop-j
-invariant-loop-j g l =
+abbrev pub invariant-loop-x : goal.invariant-loop-x
+invariant-loop-x g l =
     let F = operations g.F.Field l.f in
-    (l.p ≡ power F l.g (length l.points - l.j)) × PointsFrom F l.g l.points l.j
+    (l.p ≡ power F l.g l.x-index) × ((k : ℕ) → k < l.x-index → get_or l.points k 0 ≡ power F l.g k)
