@@ -16,7 +16,7 @@ use Rattle.carrier.proofs.Books.{after-deliver, after-strike}
 use Rattle.carrier.proofs.Promised.{fit-passes, reading, right_passes}
 use Rattle.carrier.proofs.Unique.{booked-more, told-run}
 
-follows : {X : Type 0} (i : issuer.Ghosts X) (s t : Collector X) (c : Call) (b : Book) → Left i s t b →
+pub follows : {X : Type 0} (i : issuer.Ghosts X) (s t : Collector X) (c : Call) (b : Book) → Left i s t b →
     (fitness_of i s ≡ Ok tt → b ≡ after (meaning_of i s).long s.depth (meaning_of i s).order (records_of i s) c) → Follows i s t c
 follows {X} i s t c b left step calls held =
     let m = meaning_of i s in

@@ -18,7 +18,7 @@ pub filled-held : (D : ℕ) (o : Option (List ℕ)) → filled (held D o) ≡ fi
 filled-held D None = refl
 filled-held D (Some s) = refl
 
-vacant-filled : (o : Option (List ℕ)) (b : Bool) → filled o ≡ b → vacant o ≡ cond b false true
+pub vacant-filled : (o : Option (List ℕ)) (b : Bool) → filled o ≡ b → vacant o ≡ cond b false true
 vacant-filled None b e = ap (λ (x : Bool). cond x false true) e
 vacant-filled (Some s) b e = ap (λ (x : Bool). cond x false true) e
 

@@ -2,7 +2,7 @@
 use Rattle.std.proofs.Common.{◌≡◌, ℕ, zero, suc, ◌+◌, ◌-◌, ◌*◌, ◌<◌, ◌≤◌, cond, eqb, ◌⊎◌, List, [], ◌∷◌, map, length, take, drop, Some, None, Ok, Err, Option, Result, sym, refl, ap, ◌∙◌, subst, inl, inr, mul-le-mul_right, suc-mul, add-one, arith, length-take, get_or-take, below_more}
 use borrow.Rule.Slice.PartMut.{put_mid}
 use Rattle.std.specs.Result.{MatchResult, IsErrAnd}
-use Rattle.std.proofs.lemmas.List.{length-map, take-map}
+use Rattle.std.proofs.lemmas.List.{length-map}
 use Rattle.std.proofs.lemmas.Result.{err_from_is_err_and}
 use Rattle.std.proofs.lemmas.Slice.{between-put_mid, between_is, take-put_mid_below}
 use Rattle.std.proofs.lemmas.Bool.Decides.{nat_tests}
@@ -54,13 +54,13 @@ row_at (Err g) m need rs ms old new scr scr' (Err f) i h =
 
 -- one row, in terms of the records
 pub column_row : (m : Meaning) (need D : ℕ) (strips : List (Option (List ℕ))) (i wide : ℕ) (rs ms : List ℕ) (room lent : ℕ) (old new scr scr' : List ℕ) (r : Result ℕ CodeFault) →
-    m.fitness ≡ Ok tt → i < D → wide ≡ m.long → length rs ≡ m.long → length ms ≡ m.long → room ≡ m.dimension → need ≤ lent → rs ≡ take wide (received i strips) → ms ≡ take wide (marks strips) →
+    m.fitness ≡ Ok tt → i < D → wide ≡ m.long → length rs ≡ m.long → length ms ≡ m.long → room ≡ m.dimension → need ≤ lent → rs ≡ received i (take wide strips) → ms ≡ marks (take wide strips) →
     Decided (decode_check m need rs ms room lent) m need rs ms old new scr scr' r →
     OneRow m (received i (records m.long D strips)) (marks (records m.long D strips)) new r × (drop need scr' ≡ drop need scr)
 column_row m need D strips i wide rs ms room lent old new scr scr' r e in' w a b c l x y h =
     let n = m.long in
-    let x' : rs ≡ received i (records n D strips) = x ∙ take-map (entry i) wide strips ∙ ap (λ (t : ℕ). received i (take t strips)) w ∙ sym (received-held i D (take n strips) in') in
-    let y' : ms ≡ marks (records n D strips) = y ∙ take-map mark wide strips ∙ ap (λ (t : ℕ). marks (take t strips)) w ∙ sym (marks-held D (take n strips)) in
+    let x' : rs ≡ received i (records n D strips) = x ∙ ap (λ (t : ℕ). received i (take t strips)) w ∙ sym (received-held i D (take n strips) in') in
+    let y' : ms ≡ marks (records n D strips) = y ∙ ap (λ (t : ℕ). marks (take t strips)) w ∙ sym (marks-held D (take n strips)) in
     let p = row_at (unmarked_check m.order 0 rs ms) m need rs ms old new scr scr' r refl
     (subst (λ (x : Check CodeFault). Decided x m need rs ms old new scr scr' r) (checks_left m need rs ms room lent e a b c l) h) in
     (subst (λ (t : List ℕ). OneRow m (received i (records n D strips)) t new r) y' (subst (λ (t : List ℕ). OneRow m t ms new r) x' p.0), p.1)

@@ -59,16 +59,17 @@ impl Table {
             .count()
     }
 
-    // Number `row` of each strip, and a mark at each place that holds none.
-    pub fn column(&self, row: usize) -> ([u16; 128], [u8; 128])
-        requires { row < 16 }
-        ensures numbers { result.0 ≡ received row self.now.strips }
-        ensures marks { result.1 ≡ marks self.now.strips }
+    // Number `row` of each of the first strips, and a mark at each of these places that holds none; what follows says nothing.
+    pub fn column(&self, row: usize, places: usize) -> ([u16; 128], [u8; 128])
+        requires row { row < 16 }
+        requires places { places ≤ 128 }
+        ensures numbers { take places result.0 ≡ received row (take places self.now.strips) }
+        ensures marks { take places result.1 ≡ marks (take places self.now.strips) }
     {
         let mut numbers = [0; 128];
         let mut missing = [0; 128];
         // Both lists are written by place: of what is written through a `zip` of `iter_mut` a proof knows nothing afterwards.
-        for (place, strip) in self.strips.iter().enumerate() {
+        for (place, strip) in self.strips[..places].iter().enumerate() {
             let (number, mark) = match strip {
                 Some(strip) => (strip[row], 0),
                 None => (0, 1),

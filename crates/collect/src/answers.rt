@@ -29,19 +29,20 @@ impl<'a> Bench<'a> {
         }
     }
 
-    // Answers all lines with the field that is set.
+    // Answers all lines with the field that is set. Which field it is gets asked once, here: `AnyField` would ask at each sum and
+    // product, and a word over GF(256) would take several times as long.
     pub fn answer_all(&self) -> io::Result<()> {
-        let Some(field) = self.settings.field else {
-            return println!(self.rt; "no field is set");
-        };
-        match field {
-            Ok(field) => self.with_field(field),
-            Err(fault) => println!(self.rt; "{fault}"),
+        match self.settings.field {
+            Some(Ok(AnyField::Prime(field))) => self.with_field(field),
+            Some(Ok(AnyField::Bytes(field))) => self.with_field(field),
+            Some(Err(fault)) => println!(self.rt; "{fault}"),
+            None => println!(self.rt; "no field is set"),
         }
     }
 
-    // Goes on with the code that is set. Each code and each layer is a type of its own, so each step is a generic function.
-    fn with_field(&self, field: AnyField) -> io::Result<()> {
+    // Goes on with the code that is set. Each field, each code and each layer is a type of its own, so each step is a generic
+    // function.
+    fn with_field<F: Field + Copy>(&self, field: F) -> io::Result<()> {
         match self.settings.code {
             Some(CodeChoice::Evaluation { k, points }) => {
                 let n = u16::try_from(points.len()).unwrap_or(u16::MAX);
@@ -55,7 +56,7 @@ impl<'a> Bench<'a> {
     }
 
     // Goes on with the multipliers, if any are set.
-    fn with_code<C: Code + Drop>(&self, field: AnyField, code: C) -> io::Result<()> {
+    fn with_code<F: Field + Copy, C: Code + Drop>(&self, field: F, code: C) -> io::Result<()> {
         match self.settings.multipliers {
             Some(multipliers) => self.with_scaled(Scaled::new(field, multipliers, code)),
             None => self.with_scaled(code),

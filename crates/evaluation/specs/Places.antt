@@ -7,9 +7,16 @@ use Rattle.std.specs.List.{AllByRecursion}
 use Rattle.fields.specs.Numbers.{Distinct}
 use Rattle.evaluation.specs.Decoding.{present}
 
+pub present-zero : (j : ℕ) (ms xs : List ℕ) → j < length ms → j < length xs → slice_index ms j ≡ 0 → present (drop j ms) (drop j xs) ≡ slice_index xs j ∷ present (drop (j + 1) ms) (drop (j + 1) xs)
+present-zero j ms xs hm hx e =
+    ap₂ present (drop_more ms j 0 hm) (drop_more xs j 0 hx) ∙ ap (λ m. present (m ∷ drop (j + 1) ms) (slice_index xs j ∷ drop (j + 1) xs)) e
+
 skip_one : (m x : ℕ) (ms xs : List ℕ) → m ≢ 0 → present (m ∷ ms) (x ∷ xs) ≡ present ms xs
 skip_one zero x ms xs n = absurd (n refl)
 skip_one (suc m) x ms xs n = refl
+
+pub present-other : (j : ℕ) (ms xs : List ℕ) → j < length ms → j < length xs → slice_index ms j ≢ 0 → present (drop j ms) (drop j xs) ≡ present (drop (j + 1) ms) (drop (j + 1) xs)
+present-other j ms xs hm hx n = ap₂ present (drop_more ms j 0 hm) (drop_more xs j 0 hx) ∙ skip_one (slice_index ms j) (slice_index xs j) (drop (j + 1) ms) (drop (j + 1) xs) n
 
 -- what is left of a list from place r on begins with x
 pub front_of : (r x : ℕ) (p t : List ℕ) → drop r p ≡ x ∷ t → (r < length p) × (slice_index p r ≡ x) × (drop (r + 1) p ≡ t)
@@ -29,6 +36,11 @@ present-distinct [] xs h = tt
 present-distinct (m ∷ ms) [] h = tt
 present-distinct (zero ∷ ms) (x ∷ xs) h = (present-all (λ y. y ≢ x) ms xs h.0, present-distinct ms xs h.1)
 present-distinct (suc m ∷ ms) (x ∷ xs) h = present-distinct ms xs h.1
+
+-- the next place that is not marked
+pub place : (r j : ℕ) (ms xs : List ℕ) → j < length ms → length xs ≡ length ms → slice_index ms j ≡ 0 → drop r (present ms xs) ≡ present (drop j ms) (drop j xs)
+    → (r < length (present ms xs)) × (slice_index (present ms xs) r ≡ slice_index xs j) × (drop (r + 1) (present ms xs) ≡ present (drop (j + 1) ms) (drop (j + 1) xs))
+place r j ms xs h e z inv = front_of r (slice_index xs j) (present ms xs) (present (drop (j + 1) ms) (drop (j + 1) xs)) (inv ∙ present-zero j ms xs h (omega arith) z)
 
 -- the next place, where it is not marked
 pub here : (r x m : ℕ) (zs ms xs ms' xs' : List ℕ) → ms ≡ m ∷ ms' → xs ≡ x ∷ xs' → m ≡ 0 → drop r zs ≡ present ms xs

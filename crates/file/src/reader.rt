@@ -100,7 +100,12 @@ fn cut(strips: &[u8], depth: u8, i: usize) -> Option<(u8, &[u8])>
     ensures { Handed (strips_in depth (length strips.now / (1 + 2 * depth)) strips.now) i (elim result [ None ↦ None | Some p ↦ Some (p.0, p.1.now) ]) }
 {
     let width = 1 + 2 * usize::from(depth);
-    let strip = strips.chunks_exact(width).nth(i)?;
+    // By where it starts: the `nth` of the chunks goes over each strip before it.
+    if i >= strips.len() / width {
+        return None;
+    }
+    let start = i * width;
+    let strip = &strips[start..start + width];
     Some((strip[0], &strip[1..]))
 }
 

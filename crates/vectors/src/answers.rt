@@ -25,7 +25,8 @@ use texts::fault::LineFault;
 
 mod blocks;
 
-// Asks the library, and compares; what the question is about has to be set.
+// Asks the library, and compares; what the question is about has to be set. Which field is set gets asked once, here: `AnyField`
+// would ask at each sum and product, and a word over GF(256) would take several times as long.
 pub fn ask(heap: Global, settings: &Settings, question: &Question) -> Result<Tally, LineFault> {
     match question {
         Question::Modulus { modulus, expected } => Ok(ask_modulus(*modulus, expected)),
@@ -37,17 +38,21 @@ pub fn ask(heap: Global, settings: &Settings, question: &Question) -> Result<Tal
         }
         Question::Received(received) => blocks::ask_symbol(heap, settings, received),
         Question::Field(question) => {
-            let field = settings.field.ok_or(LineFault::Unknown)?;
-            Ok(ask_field(heap, &field, question)?)
+            match settings.field.ok_or(LineFault::Unknown)? {
+                AnyField::Prime(field) => Ok(ask_field(heap, &field, question)?),
+                AnyField::Bytes(field) => Ok(ask_field(heap, &field, question)?),
+            }
         }
         Question::Code(question) => {
-            let field = settings.field.ok_or(LineFault::Unknown)?;
             let asking = Asking {
                 heap,
                 settings,
                 question,
             };
-            asking.with_field(field)
+            match settings.field.ok_or(LineFault::Unknown)? {
+                AnyField::Prime(field) => asking.with_field(field),
+                AnyField::Bytes(field) => asking.with_field(field),
+            }
         }
     }
 }
@@ -107,9 +112,9 @@ struct Asking<'a> {
 }
 
 impl Asking<'_> {
-    // Goes on with the code that is set over a field. Each code and each layer is a type of its own, so each step is a generic
-    // function.
-    fn with_field(&self, field: AnyField) -> Result<Tally, LineFault> {
+    // Goes on with the code that is set over a field. Each field, each code and each layer is a type of its own, so each step is a
+    // generic function.
+    fn with_field<F: Field + Copy>(&self, field: F) -> Result<Tally, LineFault> {
         if let Some(length) = self.settings.repetition {
             let code = Repetition::new(field.order(), usize::from(length));
             return Ok(self.with_code(field, code)?);
@@ -123,7 +128,11 @@ impl Asking<'_> {
     }
 
     // Goes on with the multipliers, if any are set.
-    fn with_code<C: Code + Drop>(&self, field: AnyField, code: C) -> Result<Tally, AllocError> {
+    fn with_code<F: Field + Copy, C: Code + Drop>(
+        &self,
+        field: F,
+        code: C,
+    ) -> Result<Tally, AllocError> {
         match &self.settings.multipliers {
             Some(multipliers) => self.with_scaled(Scaled::new(field, multipliers.as_slice(), code)),
             None => self.with_scaled(code),

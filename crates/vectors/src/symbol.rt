@@ -1,6 +1,6 @@
 // Real symbols: their kinds, and the code of a block.
 ghost use Rattle.std.specs.Prelude.{◌≡◌, ℕ, ◌+◌, ◌*◌, nat_le, IfOk};
-ghost use Rattle.vectors.specs.Kinds.{arithmetic_of, base, first_root_of};
+ghost use Rattle.vectors.specs.Kinds.{KindNamed, arithmetic_of, base, first_root_of};
 
 use fields::any::AnyField;
 use fields::fault::FieldFault;
@@ -30,6 +30,8 @@ pub struct Symbol {
 // The kind that a word names.
 impl FromStr for Kind {
     type Err = LineFault;
+
+    ghost from_str_gives = { λ word r. KindNamed word r };
 
     fn from_str(word: &str) -> Result<Kind, LineFault> {
         match word {

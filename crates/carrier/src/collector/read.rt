@@ -70,7 +70,7 @@ impl<C: Code> Collector<C> {
         ensures rest { let n = C.Code.need self.now.code in drop n scratch.new ≡ drop n scratch.old }
     {
         let long = self.code.length();
-        let (numbers, missing) = self.table.column(row);
+        let (numbers, missing) = self.table.column(row, long);
         self.code
             .decode(&numbers[..long], &missing[..long], message, scratch)
             .map_err(|fault| RowFault { fault, row })

@@ -48,6 +48,11 @@ fn collect_from(
     ensures { let x = reader.now in CollectedBy (code_of x.heading) x.heading.depth (strips_of x) sheet.old sheet.new scratch.old scratch.new result }
 {
     let heading = reader.heading();
-    let code = FileCode::new(&heading)?;
-    Ok(collect(code, usize::from(heading.depth), reader, sheet, scratch))
+    let depth = usize::from(heading.depth);
+    // Which code it is gets asked once, here: where a collector of a `FileCode` asked it at each strip, a file of many strips
+    // took half as long again.
+    match FileCode::new(&heading)? {
+        FileCode::Remainders(code) => Ok(collect(code, depth, reader, sheet, scratch)),
+        FileCode::Bytes(code) => Ok(collect(code, depth, reader, sheet, scratch)),
+    }
 }

@@ -6,11 +6,14 @@ use super::{decode, issue};
 use crate::entries::{all_present, marks_of};
 use crate::questions::Answer;
 use crate::settings::Settings;
+use crate::symbol::Symbol;
 use crate::tally::Tally;
 use codes::checks::count_missing;
 use codes::fault::CodeFault;
 use codes::interface::{Code, Issuer};
 use evaluation::Evaluation;
+use fields::any::AnyField;
+use fields::field::Field;
 use layers::Scaled;
 use std::alloc::{AllocError, Global};
 use symbols::{write_multipliers, write_points};
@@ -25,9 +28,21 @@ pub fn ask_symbol(
     let (Some(symbol), Some(codewords)) = (settings.symbol, &settings.codewords) else {
         return Err(LineFault::Unknown);
     };
-    let Ok(field) = symbol.kind.field() else {
-        return Err(LineFault::Unknown);
-    };
+    match symbol.kind.field() {
+        Ok(AnyField::Prime(field)) => ask_block(heap, field, symbol, codewords, received),
+        Ok(AnyField::Bytes(field)) => ask_block(heap, field, symbol, codewords, received),
+        Err(_) => Err(LineFault::Unknown),
+    }
+}
+
+// Decodes a block of a symbol over its field.
+fn ask_block<F: Field + Copy>(
+    heap: Global,
+    field: F,
+    symbol: Symbol,
+    codewords: &[u16],
+    received: &[Option<u16>],
+) -> Result<Tally, LineFault> {
     let n = u16::try_from(codewords.len()).unwrap_or(u16::MAX);
     let k = n.saturating_sub(symbol.checks);
     let mut points = vec![in heap; 0; codewords.len()]?;

@@ -1,4 +1,4 @@
-use Rattle.std.proofs.Common.{rules, ◌≡◌, length, take, ap, arith, length-take}
+use Rattle.std.proofs.Common.{rules, ◌≡◌, length, take, arith, length-take}
 use Rattle.std.proofs.lemmas.List.{length-map}
 use Rattle.carrier.specs.Records.{meaning_of, records_of}
 use Rattle.carrier.proofs.Records.{fits}
@@ -20,5 +20,5 @@ returns-clause-answer g c =
     let b : length (take n c.column.result.1) ≡ m.long = rw c.column.ensures.marks (simp (length-take, length-map) (omega arith)) in
     let p = column_row m (g.C.Code.need s.code) s.depth s.table.strips c.args.row n (take n c.column.result.0) (take n c.column.result.1)
     (length c.args.message.now) (length c.args.scratch.now) c.args.message.now c.decode.new.message c.args.scratch.now c.decode.new.scratch c.decode.result
-    f.code c.requires.within wide a b c.requires.asked c.requires.lent (ap (take n) c.column.ensures.numbers) (ap (take n) c.column.ensures.marks) c.decode.ensures in
+    f.code c.requires.within wide a b c.requires.asked c.requires.lent c.column.ensures.numbers c.column.ensures.marks c.decode.ensures in
     row_told m (records_of i s) c.args.row c.decode.new.message c.decode.result c.map_err.result (λ e f q. search rules) c.map_err.ensures.cases p.0
