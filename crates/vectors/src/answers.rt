@@ -25,8 +25,8 @@ use texts::fault::LineFault;
 
 mod blocks;
 
-// Asks the library, and compares; what the question is about has to be set. Which field is set gets asked once, here: `AnyField`
-// would ask at each sum and product, and a word over GF(256) would take several times as long.
+// Asks the library, and compares; what the question is about has to be set. For a question about a code, which field is set gets
+// asked once, here: `AnyField` would ask at each sum and product, and a word over GF(256) would take several times as long.
 pub fn ask(heap: Global, settings: &Settings, question: &Question) -> Result<Tally, LineFault> {
     match question {
         Question::Modulus { modulus, expected } => Ok(ask_modulus(*modulus, expected)),
@@ -38,10 +38,8 @@ pub fn ask(heap: Global, settings: &Settings, question: &Question) -> Result<Tal
         }
         Question::Received(received) => blocks::ask_symbol(heap, settings, received),
         Question::Field(question) => {
-            match settings.field.ok_or(LineFault::Unknown)? {
-                AnyField::Prime(field) => Ok(ask_field(heap, &field, question)?),
-                AnyField::Bytes(field) => Ok(ask_field(heap, &field, question)?),
-            }
+            let field = settings.field.ok_or(LineFault::Unknown)?;
+            Ok(ask_field(heap, &field, question)?)
         }
         Question::Code(question) => {
             let asking = Asking {
